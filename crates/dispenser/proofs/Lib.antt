@@ -1,0 +1,6 @@
+pub mod Lanes
+pub mod Runs
+pub mod Tests
+pub mod Rolls
+pub mod Shuffles
+pub mod Cuts

@@ -1,0 +1,5 @@
+pub mod Meaning
+pub mod Draws
+pub mod Rolled
+pub mod Shuffled
+pub mod Cut
