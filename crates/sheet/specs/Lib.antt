@@ -1,0 +1,4 @@
+pub mod Refusals
+pub mod Tags
+pub mod Dealing
+pub mod Hands
