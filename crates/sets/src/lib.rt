@@ -3,6 +3,7 @@ ghost use mathlib.Core.Path.{_≡_};
 ghost use Prim.Native.Nat.{_/_, _%_, _^_, _<_};
 ghost use lib.Dec.{eqb};
 ghost use lib.Bits.{bitAnd, bitXor};
+ghost use Rattle.sets.specs.Bytes.{in-bytes, value, by-places};
 ghost use Rattle.sets.specs.Sets.{has, union, meet, without, within, only, Laws};
 
 // Whether the tag is in the set. A number above 63 is no tag, so it is in none.
@@ -44,6 +45,20 @@ pub fn only(tag: u8) -> u64
     if tag < 64 { one_bit(tag) } else { 0 }
 }
 
+// The set as eight bytes, the high byte first.
+pub fn to_bytes(set: u64) -> [u8; 8]
+    ensures bytes { λ r. ⌜ r ≡ in-bytes 8 set ⌝ }
+    ensures back { λ _. ⌜ value (in-bytes 8 set) ≡ set ⌝ }
+{
+    set.to_be_bytes()
+}
+
+pub fn from_bytes(bytes: [u8; 8]) -> u64
+    ensures { λ r. ⌜ r ≡ value bytes ⌝ }
+{
+    joined(bytes)
+}
+
 // What the crates above use of these functions: the laws, and not the texts of the definitions.
 pub fn sets_keep_their_laws()
     ensures { λ _. ⌜ Laws ⌝ }
@@ -75,4 +90,10 @@ fn covered(a: u64, b: u64) -> bool
     ensures { λ r. ⌜ r ≡ eqb (bitAnd a b) a ⌝ }
 {
     a == a & b
+}
+
+fn joined(bytes: [u8; 8]) -> u64
+    ensures { λ r. ⌜ r ≡ by-places bytes ⌝ }
+{
+    u64::from_be_bytes(bytes)
 }
