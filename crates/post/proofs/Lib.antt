@@ -1,0 +1,5 @@
+pub mod Rings
+pub mod Pairs
+pub mod Turns
+pub mod Posts
+pub mod Runs
