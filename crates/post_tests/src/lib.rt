@@ -1,0 +1,3 @@
+// Examples of puts and takes, the same for both kinds of post.
+#[cfg(test)]
+mod table;
