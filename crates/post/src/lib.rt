@@ -48,8 +48,8 @@ pub trait Post {
         ensures left { λ _. ⌜ queues (now (self .exit)) ≡ posted (queues (now (self .entry))) receiver sender (record { sets = sets; body = now (body .entry) }) ⌝ }
         ensures untouched { λ _. ⌜ fixed (now (self .exit)) ≡ fixed (now (self .entry)) ⌝ };
 
-    // The head of the pair's queue leaves the post, and the buffer starts with its body. With a buffer too small for every
-    // body, the queue counts as empty (`reached`).
+    // The head of the pair's queue leaves the post, and the buffer starts with its body. To a buffer that could not hold
+    // every body, the queue seems empty (`reached`).
     fn take(&mut self, sender: u8, receiver: u8, buffer: &mut [u8]) -> Option<Taken>
         ensures answer { λ r. ⌜ r ≡ oldest (reached (queues (now (self .entry))) receiver sender (length (now (buffer .entry)))) ⌝ }
         ensures left { λ _. ⌜ queues (now (self .exit)) ≡ removed (queues (now (self .entry))) receiver sender (length (now (buffer .entry))) ⌝ }
