@@ -12,7 +12,7 @@ use lib.Pow.{pow-mono}
 use Rattle.std.proofs.shelf.Bits.{pow-add, pow-pos, pow-below, shl-shr, shr-shr}
 use Rattle.std.proofs.shelf.Tests.{eqb-true, eq-eqb, ne-eqb, le-ltb, and-left, cases-order}
 use Rattle.std.proofs.shelf.Ways.{tells}
-use Rattle.sets.specs.Sets.{has, without, within, only, those, those-below, Laws}
+use Rattle.sets.specs.Sets.{has, without, within, only, those-below, Laws}
 
 -- ---- the lowest bit of each operation, and so each bit
 

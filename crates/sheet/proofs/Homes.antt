@@ -13,7 +13,7 @@ use Rattle.std.proofs.shelf.Tests.{cases-eq, cases-lt, eqb-true, eq-eqb, ne-eqb
 use Rattle.sets.specs.Sets.{has}
 use Rattle.sets.proofs.Bits.{has-zero}
 use Rattle.dispenser.proofs.Lanes.{none-some}
-use Rattle.sheet.specs.Dealing.{sheet, blank, fault, left, placed, Sound}
+use Rattle.sheet.specs.Dealing.{blank, fault, left, placed, Sound}
 use Rattle.sheet.specs.Hands.{tried, valid, home, of-choice, By-hand}
 use Rattle.sheet.specs.declared.dealt.Dealt.{Dealt}
 use Rattle.sheet.proofs.Lists.{tags-in, tags-found, tags-rising}
