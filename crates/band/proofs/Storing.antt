@@ -1,38 +1,14 @@
 -- One place of 49 bytes is written: it holds what was written, and all other bytes are as they were. Assumes nothing.
 use mathlib.Core.Path.{_≡_, sym, ap, _∙_}
 use mathlib.Core.Logic.{_⊎_, inl, inr}
-use mathlib.Core.List.{List, [], _∷_, _++_}
+use mathlib.Core.List.{List, _++_}
 use Prim.Native.Nat.{ℕ, _+_, _-_, _*_, _<_, _≤_}
 use native.Mathlib.Omega.{arith}
-use lib.ListN.{length, getD, take, drop, set}
-use Rattle.std.proofs.shelf.Lists.{append-assoc, length-append, length-drop, length-take-le, take-at, take-append-le, take-append-drop, take-take, take-more, drop-at, drop-append-le, drop-drop, drop-more, drop-take, set-append-right}
+use lib.ListN.{length, take, drop}
+use Rattle.std.proofs.shelf.Lists.{append-assoc, length-append, length-drop, length-take-le, take-at, take-append-le, take-take, drop-at, drop-append-le, drop-drop, drop-take}
 use Rattle.std.proofs.shelf.Tests.{cases-order, eq-eqb, ne-eqb, cond-true, cond-false}
 use Rattle.post.specs.Queues.{upd}
 use Rattle.band.specs.Banded.{unpacked, cell, stored, banded}
-
--- ---- the loop that writes
-
-pub none-written : (b x : List ℕ) (at : ℕ) → b ≡ take at b ++ (take 0 x ++ drop (at + 0) b)
-none-written b x at = sym (take-append-drop at b) ∙ ap (λ j. take at b ++ drop j b) (omega arith)
-
-pub one-written : (b x : List ℕ) (at i : ℕ) → at + i < length b → i < length x
-    → set (take at b ++ (take i x ++ drop (at + i) b)) (at + i) (getD x i 0) ≡ take at b ++ (take (i + 1) x ++ drop (at + (i + 1)) b)
-one-written b x at i h k =
-    let y = getD x i 0 in
-    let l : length (take at b) ≡ at = length-take-le at b (omega arith) in
-    let m : length (take i x) ≡ i = length-take-le i x (omega arith) in
-    let z : at + i - at ≡ i = omega arith in
-    let w : i - i ≡ 0 = omega arith in
-    set-append-right (take at b) (take i x ++ drop (at + i) b) at (at + i) y l (omega arith)
-    ∙ ap (λ j. take at b ++ set (take i x ++ drop (at + i) b) j y) z
-    ∙ ap (λ t. take at b ++ t) (set-append-right (take i x) (drop (at + i) b) i i y m (omega arith)
-    ∙ ap (λ j. take i x ++ set (drop (at + i) b) j y) w
-    ∙ ap (λ t. take i x ++ set t 0 y) (drop-more b (at + i) 0 h)
-    ∙ sym (append-assoc (take i x) (y ∷ []) (drop (at + i + 1) b))
-    ∙ ap (λ t. t ++ drop (at + i + 1) b) (sym (take-more x i 0 k))
-    ∙ ap (λ j. take (i + 1) x ++ drop j b) (omega arith))
-
--- ---- what is written
 
 module _ (b x : List ℕ) (k : ℕ) (long : k * 49 + 49 ≤ length b) (whole : length x ≡ 49) where
   front : List ℕ

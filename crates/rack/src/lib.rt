@@ -1,8 +1,8 @@
 // The rack: a post that keeps its letters as records in lent memory.
 ghost use mathlib.Core.Path.{_≡_};
 ghost use mathlib.Core.List.{List, []};
-ghost use Prim.Native.Nat.{ℕ, _≤_};
-ghost use lib.ListN.{length, drop};
+ghost use Prim.Native.Nat.{ℕ, _<_, _≤_};
+ghost use lib.ListN.{length, set, drop};
 ghost use denote.Ref.{now, name};
 ghost use Rattle.post.specs.Memory.{checked};
 ghost use Rattle.post.specs.Places.{places, lying};
@@ -63,6 +63,15 @@ impl<'a> Rack<'a> {
         let Rack { records, lines: _ } = self;
         records
     }
+
+    fn store(&mut self, place: usize, written: Record)
+        requires { ⌜ place < 1024 ⌝ }
+        ensures records { λ _. ⌜ now (now (self .exit) .records) ≡ set (now (now (self .entry) .records)) place written ⌝ }
+        ensures lines { λ _. ⌜ now (self .exit) .lines ≡ now (self .entry) .lines ⌝ }
+        ensures name { λ _. ⌜ name (now (self .exit) .records) ≡ name (now (self .entry) .records) ⌝ }
+    {
+        self.records[place] = written;
+    }
 }
 
 pub impl<'a> Post for Rack<'a> as RackPost {
@@ -80,7 +89,7 @@ pub impl<'a> Post for Rack<'a> as RackPost {
         }
         match self.lines.add(sender, receiver) {
             Some(place) => {
-                self.records[place] = Record::new(sets, body);
+                self.store(place, Record::new(sets, body));
                 Put::Kept
             }
             None => Put::Full,

@@ -1,4 +1,5 @@
-use mathlib.Core.Path.{refl, ap, _∙_}
+use mathlib.Core.Path.{_≡_, refl, ap, ap₂, _∙_}
+use lib.ListN.{drop}
 use Prim.Native.Nat.{_<_}
 use native.Mathlib.Omega.{arith}
 use Rattle.std.proofs.shelf.Lists.{drop-set-lt}
@@ -20,10 +21,12 @@ returns-in-Some c =
     let b : k < 1024 = c .in-Some .ensures tt .inside in
     let m : Letter = record { sets = c .args .sets; body = c .args .body .now } in
     let p = kept (recorded xs) l r s k m (places (c .add .last .self)) a (c .add .ensures .left) (c .if-body-gt16 .left) in
+    let one : recorded (c .store .last .self .records .now) ≡ upd (recorded xs) k m =
+    ap recorded (c .store .ensures .records) ∙ recorded-set xs k (c .new .result) (omega (arith, c .args .self .now .enough)) ∙ ap (upd (recorded xs) k) (c .new .ensures) in
     record {
       answer = p .answer;
-      left = ap (λ x. lying x (places (c .add .last .self))) (recorded-set xs k (c .new .result) (omega arith) ∙ ap (upd (recorded xs) k) (c .new .ensures)) ∙ p .left;
-      untouched = ap (λ x. (c .args .self .now .records .name, x)) (drop-set-lt 1024 xs k (c .new .result) b);
+      left = ap₂ (λ at n. lying at (places n)) one (c .store .ensures .lines) ∙ p .left;
+      untouched = ap₂ (λ n y. (n, y)) (c .store .ensures .name) (ap (drop 1024) (c .store .ensures .records) ∙ drop-set-lt 1024 xs k (c .new .result) b);
     }
 
 pub returns-in-None : need.returns-in-None
