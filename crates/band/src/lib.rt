@@ -1,4 +1,6 @@
 // The band: a post that packs its letters, 49 bytes each, into lent memory.
+#![tactic(auto)]
+
 ghost use Rattle.std.specs.Prelude.{◌≡◌, ℕ, ◌*◌, ◌<◌, ◌≤◌, List, [], length, drop};
 ghost use Rattle.post.specs.Memory.{checked};
 ghost use Rattle.post.specs.Places.{places, lying};

@@ -1,4 +1,6 @@
 // Deals a sheet by hand and draws from it and from the other dispensers, one line a draw.
+#![tactic(auto)]
+
 ghost use Rattle.std.specs.Prelude.{◌≡◌, None};
 ghost use Rattle.deal.specs.Names.{choice_text};
 

@@ -1,4 +1,6 @@
 // A tag dispenser: 48 lanes of tags, and the two sets of tags whose capability everyone has.
+#![tactic(auto)]
+
 ghost use Rattle.std.specs.Prelude.{◌≡◌};
 ghost use Rattle.dispenser.specs.Meaning.{Meaning, Lawful, first, drawn};
 

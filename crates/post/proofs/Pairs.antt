@@ -1,6 +1,6 @@
 -- Tables by receiver and sender: one pair's entry changed, and letters read place by place. Assumes nothing.
 use Rattle.std.proofs.Common.{◌≡◌, ℕ, cond, ◌⊎◌, List, [], ◌∷◌, ◌++◌, map, drop, sym, refl, ap, ◌∙◌, inl, inr}
-use Rattle.std.specs.List.{AllByRecursion as All}
+use Rattle.std.specs.List.{AllByRecursion}
 use Rattle.std.proofs.lemmas.List.{drop-map}
 use Rattle.std.proofs.lemmas.Bool.{cases_eq, eq-eqb, ne_eqb}
 use Rattle.post.specs.Queues.{Letter, upd, requeued}
@@ -31,16 +31,16 @@ pub unchanged : {A : Type 0} (q : ℕ → ℕ → A) (r s : ℕ) (x : A) → q r
 unchanged q r s x e = sym (known q q r s x e (λ i j n. refl))
 
 -- a letter written to a place that is not among those read
-elsewhere : (at : ℕ → Letter) (k : ℕ) (l : Letter) (xs : List ℕ) → All (λ j. j ≡ k → ⊥) xs → map (upd at k l) xs ≡ map at xs
+elsewhere : (at : ℕ → Letter) (k : ℕ) (l : Letter) (xs : List ℕ) → AllByRecursion (λ j. j ≡ k → ⊥) xs → map (upd at k l) xs ≡ map at xs
 elsewhere at k l [] a = refl
 elsewhere at k l (x ∷ xs) a = λ i. (ap (λ b. cond b l (at x)) (ne_eqb x k a.0)) i ∷ elsewhere at k l xs a.1 i
 
-there : (at : ℕ → Letter) (k : ℕ) (l : Letter) (xs : List ℕ) → All (λ j. j ≡ k → ⊥) xs → map (upd at k l) (xs ++ (k ∷ [])) ≡ map at xs ++ (l ∷ [])
+there : (at : ℕ → Letter) (k : ℕ) (l : Letter) (xs : List ℕ) → AllByRecursion (λ j. j ≡ k → ⊥) xs → map (upd at k l) (xs ++ (k ∷ [])) ≡ map at xs ++ (l ∷ [])
 there at k l [] a = ap (λ b. cond b l (at k) ∷ []) (eq-eqb k k refl)
 there at k l (x ∷ xs) a = λ i. (ap (λ b. cond b l (at x)) (ne_eqb x k a.0)) i ∷ there at k l xs a.1 i
 
 -- a letter in a place that was not in use stands behind the others of its pair
-pub one_more : (at : ℕ → Letter) (ps : ℕ → ℕ → List ℕ) (r s k : ℕ) (l : Letter) → ((i j : ℕ) → All (λ x. x ≡ k → ⊥) (ps i j))
+pub one_more : (at : ℕ → Letter) (ps : ℕ → ℕ → List ℕ) (r s k : ℕ) (l : Letter) → ((i j : ℕ) → AllByRecursion (λ x. x ≡ k → ⊥) (ps i j))
     → lying (upd at k l) (requeued ps r s (ps r s ++ (k ∷ []))) ≡ requeued (lying at ps) r s (map at (ps r s) ++ (l ∷ []))
 one_more at ps r s k l free =
     known _ (lying at ps) r s _ (ap (map (upd at k l)) (changed_here ps r s _) ∙ there at k l (ps r s) (free r s))

@@ -1,7 +1,7 @@
 -- A post over lines: what put, take and count owe, and the laws, whatever the letters lie in. Assumes nothing.
 use Rattle.std.proofs.Common.{◌≡◌, ℕ, ◌≤◌, true, false, cond, ◌&&◌, ltb, ◌⊎◌, List, [], ◌∷◌, map, length, Some, None, sym, refl, ap, ◌∙◌, inl, inr, arith}
 use lib.ListN.{length-map}
-use Rattle.std.specs.List.{slice_get, AllByRecursion as All}
+use Rattle.std.specs.List.{slice_get, AllByRecursion}
 use Rattle.std.proofs.lemmas.Bool.{cases_Bool, le-leb, cond-true, cond-false}
 use Rattle.post.specs.Queues.{Letter, Queues, Lawful, valid, upd, room, posted, reached, oldest, written, removed}
 use Rattle.post.specs.Places.{places, vacant, next, added, freed, lying}
@@ -26,7 +26,7 @@ module _ (at : ℕ → Letter) (l : Lines) where
     short = λ r s. all (places l r s);
   }
     where
-      all : (ps : List ℕ) → All (λ x. length x.body ≤ 16) (map at ps)
+      all : (ps : List ℕ) → AllByRecursion (λ x. length x.body ≤ 16) (map at ps)
       all [] = tt
       all (k ∷ ks) = (short k, all ks)
 

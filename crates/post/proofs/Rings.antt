@@ -1,6 +1,6 @@
 -- A ring of four places: how many are in use, the first and the others, one more, and that the next is not in use. Assumes nothing.
 use Rattle.std.proofs.Common.{◌≡◌, ℕ, zero, suc, ◌+◌, ◌-◌, ◌*◌, ◌%◌, ◌<◌, [], ◌∷◌, ◌++◌, length, drop, Some, sym, refl, ap, ◌∙◌, arith}
-use Rattle.std.specs.List.{slice_get, AllByRecursion as All}
+use Rattle.std.specs.List.{slice_get, AllByRecursion}
 use Rattle.post.specs.Places.{ring}
 
 pub no_places : (p f : ℕ) → ring p f 0 ≡ []
@@ -41,7 +41,7 @@ ring_more p f (suc n) =
     ap (ring p f) s ∙ ap (λ l. (p * 4 + f % 4) ∷ l) (ring_more p (suc f) n ∙ ap (λ m. ring p (suc f) n ++ ((p * 4 + m % 4) ∷ [])) e)
 
 -- what holds of each place of the ring
-pub ring_all : (P : ℕ → Type 0) (p f n : ℕ) → ((i : ℕ) → i < n → P (p * 4 + (f + i) % 4)) → All P (ring p f n)
+pub ring_all : (P : ℕ → Type 0) (p f n : ℕ) → ((i : ℕ) → i < n → P (p * 4 + (f + i) % 4)) → AllByRecursion P (ring p f n)
 unfolding ring
 ring_all P p f zero h = tt
 ring_all P p f (suc n) h =

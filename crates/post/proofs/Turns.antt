@@ -1,6 +1,6 @@
 -- The lines of all pairs when one place is taken into use or set free. Assumes nothing.
 use Rattle.std.proofs.Common.{◌≡◌, ℕ, ◌+◌, ◌-◌, ◌*◌, ◌%◌, ◌<◌, ◌≤◌, true, false, cond, ltb, ◌⊎◌, List, [], ◌∷◌, ◌++◌, length, get_or, drop, set, replicate, Some, None, sym, refl, ap, ◌∙◌, ap₂, inl, inr, arith, rules}
-use Rattle.std.specs.List.{slice_get, AllByRecursion as All}
+use Rattle.std.specs.List.{slice_get, AllByRecursion}
 use Rattle.std.proofs.lemmas.List.{places as element-laws, get_or-set_same, get_or-set_other, set-get_or, nil_from_length}
 use Rattle.std.proofs.lemmas.Bool.{cases_Bool, cases_eq, and_parts, and_from, and_right, ltb-true, le-ltb, lt-ltb}
 use Rattle.post.specs.Queues.{valid, requeued}
@@ -111,7 +111,7 @@ none_freed l r s e = sym (unchanged (places l) r s (drop 1 (places l r s)) (e �
 
 -- ---- the next place is not in use
 
-pub next_free : (l : Lines) (r s : ℕ) → vacant l r s ≡ true → (i j : ℕ) → All (λ k. k ≡ next l r s → ⊥) (places l i j)
+pub next_free : (l : Lines) (r s : ℕ) → vacant l r s ≡ true → (i j : ℕ) → AllByRecursion (λ k. k ≡ next l r s → ⊥) (places l i j)
 next_free l r s h i j = go (cases_Bool (valid i j)) (cases_eq (pair i j) (pair r s))
   where
     v : valid r s ≡ true
@@ -129,7 +129,7 @@ next_free l r s h i j = go (cases_Bool (valid i j)) (cases_eq (pair i j) (pair r
         let c : get_or l.count (pair i j) 0 ≡ get_or l.count (pair r s) 0 = ap (λ p. get_or l.count p 0) e in
         omega (arith, few)
 
-    go : (valid i j ≡ true) ⊎ (valid i j ≡ false) → (pair i j ≡ pair r s) ⊎ (pair i j ≡ pair r s → ⊥) → All Free (places l i j)
+    go : (valid i j ≡ true) ⊎ (valid i j ≡ false) → (pair i j ≡ pair r s) ⊎ (pair i j ≡ pair r s → ⊥) → AllByRecursion Free (places l i j)
     go (inl w) (inl e) = rw w (ring_all Free (pair i j) (get_or l.first (pair i j) 0) (get_or l.count (pair i j) 0) (λ a b q. same a b q e))
     go (inl w) (inr d) = rw w (ring_all Free (pair i j) (get_or l.first (pair i j) 0) (get_or l.count (pair i j) 0) (λ a b q. d (omega arith)))
     go (inr w) e = rw w tt

@@ -1,6 +1,6 @@
 -- What a post holds, what put and take do to it, and the laws of every post. Assumes nothing.
 use Rattle.std.specs.Prelude.{◌≡◌, ℕ, ◌≤◌, Bool, false, cond, ◌&&◌, List, [], ◌∷◌, ◌++◌, length, drop, Some, None, Option, ◌==◌, nat_le, nat_lt}
-use Rattle.std.specs.List.{AllByRecursion as All}
+use Rattle.std.specs.List.{AllByRecursion}
 use Rattle.post.specs.declared.LetterSets.{LetterSets}
 use Rattle.post.specs.declared.Taken.{Taken}
 
@@ -53,4 +53,4 @@ removed q r s size = cond (nat_le 16 size) (requeued q r s (drop 1 (q r s))) q
 pub record Lawful (q : Queues) : Type 0 where
   pub few : (r s : ℕ) → length (q r s) ≤ 4
   pub nowhere_else : (r s : ℕ) → valid r s ≡ false → q r s ≡ []
-  pub short : (r s : ℕ) → All (λ l. length l.body ≤ 16) (q r s)
+  pub short : (r s : ℕ) → AllByRecursion (λ l. length l.body ≤ 16) (q r s)

@@ -1,4 +1,6 @@
 // A post: a queue of letters for each ordered pair of sender and receiver, with room for four.
+#![tactic(auto)]
+
 ghost use Rattle.std.specs.Prelude.{◌≡◌, length, if◌then◌else◌};
 ghost use Rattle.post.specs.Queues.{Queues, Lawful, room, posted, reached, oldest, written, removed};
 

@@ -1,3 +1,5 @@
 // Examples of puts and takes, the same for both kinds of post.
+#![tactic(auto)]
+
 #[cfg(test)]
 mod table;

@@ -1,4 +1,6 @@
 // The rack: a post that keeps its letters as records in lent memory.
+#![tactic(auto)]
+
 ghost use Rattle.std.specs.Prelude.{◌≡◌, ℕ, ◌<◌, ◌≤◌, List, [], length, drop, slice_set};
 ghost use Rattle.post.specs.Memory.{checked};
 ghost use Rattle.post.specs.Places.{places, lying};

@@ -1,4 +1,6 @@
 // Sets of tags as 64-bit numbers, tag n being bit n: membership, union, intersection, difference, inclusion.
+#![tactic(auto)]
+
 ghost use Rattle.std.specs.Prelude.{◌≡◌, ◌/◌, ◌%◌, ◌^◌, ◌<◌, ◌==◌, bit_and, bit_xor};
 ghost use Rattle.sets.specs.Bytes.{in_bytes, value, by_places};
 ghost use Rattle.sets.specs.Sets.{has, union, meet, without, within, only, Laws};

@@ -1,5 +1,5 @@
 -- What a sheet holds, and what a deal does to it. Assumes nothing.
-use Rattle.std.specs.Prelude.{◌≡◌, ℕ, ◌%◌, Bool, true, false, cond, ◌&&◌, ◌||◌, length, set, replicate, Some, None, Ok, Err, Option, Result, ◌==◌, nat_lt, slice_index, slice_set}
+use Rattle.std.specs.Prelude.{◌≡◌, ℕ, ◌%◌, Bool, true, false, cond, ◌&&◌, ◌||◌, length, replicate, Some, None, Ok, Err, Option, Result, ◌==◌, nat_lt, slice_index, slice_set}
 use Rattle.sets.specs.Sets.{has, union, only}
 use Rattle.dispenser.specs.Meaning.{Meaning}
 use Rattle.sheet.specs.Tags.{tags}

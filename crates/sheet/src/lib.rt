@@ -1,4 +1,6 @@
 // The sheet: a dispenser whose tags are given to its lanes by hand, singly.
+#![tactic(auto)]
+
 ghost use Rattle.std.specs.Prelude.{◌≡◌, ℕ, List};
 ghost use Rattle.std.specs.Int.Count.{count_trailing_zeros};
 ghost use Rattle.sets.specs.Sets.{without, only};

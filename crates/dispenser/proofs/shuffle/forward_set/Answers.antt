@@ -11,7 +11,7 @@ pub loop-n-preserved : goal.loop-n-preserved
 unfolding those_below
 loop-n-preserved c =
     let f : ℕ → Bool = λ n. has (back n) c.args.tags in
-    c.union-all.ensures ∙ ap₂ union c.loop-n.invariant c.forward-bit.ensures ∙ ap (those_below f) (sym (add-one c.loop-n.n))
+    c.union-all.ensures ∙ ap₂ union c.loop-n.invariant c.forward_bit.ensures ∙ ap (those_below f) (sym (add-one c.loop-n.n))
 
 pub returns : goal.returns
 returns c = c.loop-n.invariant ∙ ap (those_below (λ n. has (back n) c.args.tags)) (omega arith)

@@ -5,11 +5,11 @@ use Rattle.sheet.specs.declared.dealt.Dealt.{Dealt}
 use Rattle.sheet.proofs.Deals.{checked, placed_sound}
 use Rattle.sheet.proofs.Deal.deal.Goals as goal
 
-pub invariant-of-self : goal.invariant-of-self
-invariant-of-self c =
+pub invariant_of-self : goal.invariant_of-self
+invariant_of-self c =
     let d = c.args.self.now.dealt in
-    let ok = checked d c.args.tag c.args.lane c.in-ok-check.ensures in (
-      ∥∥₁_map c.args.self.now.sound (λ s.
-          subst (λ (x : Dealt). Sound x) (sym c.place.ensures) (placed_sound d c.args.tag c.args.lane s ok)),
-      tt,
-    )
+    let ok = checked d c.args.tag c.args.lane c.in_ok-check.ensures in
+    record {
+      sound = ∥∥₁_map c.args.self.now.sound (λ s.
+          subst (λ (x : Dealt). Sound x) (sym c.place.ensures) (placed_sound d c.args.tag c.args.lane s ok));
+    }

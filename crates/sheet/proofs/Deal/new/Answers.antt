@@ -6,8 +6,8 @@ use Rattle.sheet.proofs.Deals.{blank_sound}
 use Rattle.sheet.proofs.Homes.{by_hand}
 use Rattle.sheet.proofs.Deal.new.Goals as goal
 
-pub invariant-of-result : goal.invariant-of-result
-invariant-of-result c = (∣ subst (λ (d : Dealt). Sound d) (sym c.new.ensures) blank_sound ∣₁, tt)
+pub invariant_of-result : goal.invariant_of-result
+invariant_of-result c = record { sound = ∣ subst (λ (d : Dealt). Sound d) (sym c.new.ensures) blank_sound ∣₁ }
 
 pub returns : goal.returns
 returns c = record {

@@ -17,13 +17,13 @@ pub returns-then-set-eq0 : goal.returns-then-set-eq0
 returns-then-set-eq0 c = draw_none c.args.self.now.dealt c.args.lane c.if-set-eq0.true
 
 -- the set that is stored is the lane's without its lowest tag
-pub invariant-of-self : goal.invariant-of-self
-invariant-of-self c =
+pub invariant_of-self : goal.invariant_of-self
+invariant_of-self c =
     let s = c.args.self.now in
     let k = c.args.lane in
     let set = get_or s.dealt.lanes k 0 in
     let part : (t : ℕ) → has t c.cleared.result ≡ true → has t set ≡ true = λ t h. cleared_part set c.lowest-tag.result t (ap (has t) (sym c.cleared.ensures) ∙ h) in
-    (∥∥₁_map s.sound (less_sound s.dealt k c.cleared.result (omega arith) part), tt)
+    record { sound = ∥∥₁_map s.sound (less_sound s.dealt k c.cleared.result (omega arith) part) }
 
 pub returns : goal.returns
 returns c =

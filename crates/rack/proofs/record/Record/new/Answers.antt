@@ -4,11 +4,11 @@ use Rattle.rack.proofs.record.Record.new.Goals as goal
 
 pub returns : goal.returns
 returns c =
-    let e = c.copy-from-slice.ensures.after in
-    let t = take_at c.copy-from-slice.new.self _ (length c.args.text.now) (ap length e) in
+    let e = c.copy_from_slice.ensures.after in
+    let t = take_at c.copy_from_slice.new.self _ (length c.args.text.now) (ap length e) in
     λ i. record { sets = c.args.sets; body = (t ∙ e) i }
 
-pub invariant-of-result : goal.invariant-of-result
-invariant-of-result c =
-    let n = ap length c.copy-from-slice.ensures.after in
-    (c.requires, (simp (length-append, length-drop) (omega arith), tt))
+pub invariant_of-result : goal.invariant_of-result
+invariant_of-result c =
+    let n = ap length c.copy_from_slice.ensures.after in
+    record { short = c.requires; whole = simp (length-append, length-drop) (omega arith) }
