@@ -3,6 +3,7 @@ use band::Band;
 use post::{LetterSets, Post, PostFault, Put, Taken};
 use rack::Rack;
 use rack::record::Record;
+use std::fmt::Debug;
 use std::test::Fail;
 
 // Sender, receiver, and then: of a put the letter's mark, its body's length and the answer; of a take the buffer's
@@ -64,79 +65,84 @@ fn sets_of(mark: u8) -> LetterSets {
     }
 }
 
-// Whether the post does what the row says.
-fn follows<P: Post>(post: &mut P, row: Row) -> bool {
-    match row {
-        Row::Puts(sender, receiver, mark, len, answer) => {
-            let text = [mark; 32];
-            if len > 32 {
-                return false;
-            }
-            let put = post.put(sender, receiver, sets_of(mark), &text[0..len as usize]);
-            put == answer
-        }
-        Row::Takes(sender, receiver, size, answer) => {
-            takes(post, sender, receiver, size, answer)
-        }
-        Row::Counts(sender, receiver, answer) => post.count(sender, receiver) == answer,
+// What a test found beside what it expected.
+#[derive(Debug, Drop)]
+struct Differ<T> {
+    found: T,
+    expected: T,
+}
+
+fn same<T: PartialEq + Debug + Drop>(found: T, expected: T) -> Result<(), Fail> {
+    if found == expected {
+        Ok(())
+    } else {
+        Err(Differ { found, expected })?
     }
 }
 
-fn takes<P: Post>(
+fn follow<P: Post>(post: &mut P, row: Row) -> Result<(), Fail> {
+    match row {
+        Row::Puts(sender, receiver, mark, len, answer) => {
+            let text = [mark; 32];
+            let body = text.get(0..len as usize).ok_or("a body over 32 bytes")?;
+            same(post.put(sender, receiver, sets_of(mark), body), answer)
+        }
+        Row::Takes(sender, receiver, size, answer) => {
+            follow_take(post, sender, receiver, size, answer)
+        }
+        Row::Counts(sender, receiver, answer) => same(post.count(sender, receiver), answer),
+    }
+}
+
+fn follow_take<P: Post>(
     post: &mut P,
     sender: u8,
     receiver: u8,
     size: u8,
     answer: Option<(u8, u8)>,
-) -> bool {
+) -> Result<(), Fail> {
     let mut buffer = [255; 40];
     let mut expected = [255; 40];
-    if size > 40 {
-        return false;
-    }
-    let taken = post.take(sender, receiver, &mut buffer[0..size as usize]);
-    let letter = match answer {
+    let part = buffer
+        .get_mut(0..size as usize)
+        .ok_or("a buffer over 40 bytes")?;
+    let taken = post.take(sender, receiver, part);
+    match answer {
         Some((mark, len)) => {
-            if len > 40 {
-                return false;
-            }
-            for i in 0..len as usize {
-                expected[i] = mark;
-            }
-            Some(Taken {
+            let body = expected
+                .get_mut(0..len as usize)
+                .ok_or("a body over 40 bytes")?;
+            body.fill(mark);
+            let letter = Taken {
                 sets: sets_of(mark),
                 len,
-            })
+            };
+            same(taken, Some(letter))?;
         }
-        None => None,
-    };
-    taken == letter && buffer == expected
+        None => same(taken, None)?,
+    }
+    same(buffer, expected)
 }
 
-// The number of the first row that the post does not follow; none where it follows them all.
-fn first_unlike<P: Post>(post: &mut P) -> Option<usize> {
-    for (number, row) in TABLE.iter().enumerate() {
-        if !follows(post, *row) {
-            return Some(number);
-        }
+fn follow_all<P: Post>(post: &mut P) -> Result<(), Fail> {
+    for row in TABLE.iter() {
+        follow(post, *row)?;
     }
-    None
+    Ok(())
 }
 
 #[test]
 fn rack_follows_the_table(rt: HostRuntime) -> Result<(), Fail> {
     let mut memory = vec![in rt.alloc(); Record::blank(); 1024]?;
     Rack::check(&memory)?;
-    assert_eq!(rt; first_unlike(&mut Rack::new(&mut memory)), None);
-    Ok(())
+    follow_all(&mut Rack::new(&mut memory))
 }
 
 #[test]
 fn band_follows_the_table(rt: HostRuntime) -> Result<(), Fail> {
     let mut memory = vec![in rt.alloc(); 255; 50176]?;
     Band::check(&memory)?;
-    assert_eq!(rt; first_unlike(&mut Band::new(&mut memory)), None);
-    Ok(())
+    follow_all(&mut Band::new(&mut memory))
 }
 
 #[test]
@@ -154,9 +160,9 @@ fn one_place_less_is_refused(rt: HostRuntime) -> Result<(), Fail> {
 fn rack_leaves_what_lies_behind(rt: HostRuntime) -> Result<(), Fail> {
     let mut memory = vec![in rt.alloc(); Record::blank(); 1028]?;
     assert!(rt; memory.len() == 1028);
-    assert_eq!(rt; first_unlike(&mut Rack::new(&mut memory[4..1028])), None);
+    follow_all(&mut Rack::new(&mut memory[4..1028]))?;
     let mut rack = Rack::new(&mut memory);
-    assert_eq!(rt; first_unlike(&mut rack), None);
+    follow_all(&mut rack)?;
     let memory = rack.into_memory();
     assert!(rt; memory.len() == 1028);
     // this rack's last letter, and behind it the first and the last of the other's last pair
@@ -171,7 +177,7 @@ fn band_leaves_what_lies_behind(rt: HostRuntime) -> Result<(), Fail> {
     let mut memory = vec![in rt.alloc(); 165u8; 50178]?;
     Band::check(&memory)?;
     let mut band = Band::new(&mut memory);
-    assert_eq!(rt; first_unlike(&mut band), None);
+    follow_all(&mut band)?;
     let memory = band.into_memory();
     assert!(rt; memory.len() == 50178);
     // the last byte of the last letter's integrity set
