@@ -6,7 +6,8 @@ use Rattle.std.proofs.lemmas.Bool.{eq-eqb, ne_eqb, false≢true}
 use Rattle.dispenser.specs.Meaning.{Meaning, Lawful, Stands, first, drawn}
 use Rattle.dispenser.specs.Draws.{lanes_of, answered, after, NeverTwice, kept, OwnLanesOnly}
 use Rattle.dispenser.specs.declared.draws.Draw.{Draw}
-use Rattle.dispenser.specs.Lanes.{none_some, slice_get-drop, part_lawful}
+use Rattle.std.proofs.lemmas.Option.{none-some}
+use Rattle.dispenser.specs.Lanes.{slice_get-drop, part_lawful}
 
 -- ---- no tag twice
 
@@ -33,7 +34,7 @@ first_stood m k ks t x h e = ap (λ d. d.tag) (same h) ∙ e
 
 -- a tag that a run answers stood in a lane
 stood : (m : Meaning) (ks : List ℕ) (i t : ℕ) (x : Draw) → slice_get (answered m ks) i ≡ Some x → x.tag ≡ Some t → (j : ℕ) × (a : ℕ) × Stands m j a t
-stood m [] i t x h e = absurd (none_some x h)
+stood m [] i t x h e = absurd (none-some x h)
 stood m (k ∷ ks) zero t x h e = (k, 0, first_stood m k ks t x h e)
 stood m (k ∷ ks) (suc i) t x h e =
     let s = stood (drawn m k) ks i t x h e in
@@ -48,7 +49,7 @@ gone m laws k ks i t x h l p =
     omega (arith, e.1)
 
 pub never_twice : (m : Meaning) → Lawful m → NeverTwice m
-never_twice m laws [] i j t x y h l p q = absurd (none_some x h)
+never_twice m laws [] i j t x y h l p q = absurd (none-some x h)
 never_twice m laws (k ∷ ks) zero zero t x y h l p q = refl
 never_twice m laws (k ∷ ks) zero (suc j) t x y h l p q = absurd (gone m laws k ks j t y (first_stood m k ks t x h p) l q)
 never_twice m laws (k ∷ ks) (suc i) zero t x y h l p q = absurd (gone m laws k ks i t x (first_stood m k ks t y l q) h p)

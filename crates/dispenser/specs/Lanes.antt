@@ -1,17 +1,14 @@
 -- Lanes: places in them, what a draw leaves, and a dispenser whose lanes are parts of another's. Assumes nothing.
-use Rattle.std.specs.Prelude.{◌≡◌, ℕ, zero, suc, ◌+◌, ◌%◌, ◌<◌, ◌≤◌, false, ◌&&◌, ◌⊎◌, List, [], ◌∷◌, map, take, drop, replicate, Some, None, ◌==◌, ◌≢◌, slice_index, refl}
+use Rattle.std.specs.Prelude.{◌≡◌, ℕ, zero, suc, ◌+◌, ◌%◌, ◌<◌, ◌≤◌, false, ◌&&◌, ◌⊎◌, List, [], ◌∷◌, take, drop, replicate, Some, None, ◌==◌, ◌≢◌, slice_index, refl}
 use Rattle.std.proofs.Common.{sym, ap, ◌∙◌, inl, inr, zero-add, suc-add, arith}
 use denote.Struct.Props.{props}
-use Rattle.std.specs.Option.{option_map}
 use Rattle.std.specs.List.{slice_get}
 use Rattle.std.proofs.lemmas.Bool.{cases_eq, eq-eqb, ne_eqb}
+use Rattle.std.proofs.lemmas.Option.{none-some}
 use Rattle.sets.specs.Sets.{has}
 use Rattle.dispenser.specs.Meaning.{Meaning, Lawful, Stands, first, drawn}
 
 -- ---- places in a list
-
-pub none_some : {A : Type 0} (x : A) → None ≢ Some x
-none_some x h = let z : ◌≡◌ {A = ℕ} 0 1 = cc in omega arith
 
 pub slice_get-drop : (n : ℕ) (xs : List ℕ) (a : ℕ) → slice_get (drop n xs) a ≡ slice_get xs (n + a)
 slice_get-drop zero xs a = ap (slice_get xs) (sym (zero-add a))
@@ -19,15 +16,10 @@ slice_get-drop (suc n) [] a = refl
 slice_get-drop (suc n) (x ∷ xs) a = slice_get-drop n xs a ∙ ap (slice_get (x ∷ xs)) (sym (suc-add n a))
 
 pub slice_get-take : (n : ℕ) (xs : List ℕ) (a t : ℕ) → slice_get (take n xs) a ≡ Some t → slice_get xs a ≡ Some t
-slice_get-take zero xs a t h = absurd (none_some t h)
+slice_get-take zero xs a t h = absurd (none-some t h)
 slice_get-take (suc n) [] a t h = h
 slice_get-take (suc n) (x ∷ xs) zero t h = h
 slice_get-take (suc n) (x ∷ xs) (suc a) t h = slice_get-take n xs a t h
-
-pub slice_get-own_map : (f : ℕ → ℕ) (xs : List ℕ) (a : ℕ) → slice_get (map f xs) a ≡ option_map f (slice_get xs a)
-slice_get-own_map f [] a = refl
-slice_get-own_map f (x ∷ xs) zero = refl
-slice_get-own_map f (x ∷ xs) (suc a) = slice_get-own_map f xs a
 
 pub slice_index-replicate : (n k : ℕ) → ◌≡◌ {A = ℕ} (slice_index (replicate n 0) k) 0
 slice_index-replicate zero k = refl
@@ -37,7 +29,7 @@ slice_index-replicate (suc n) (suc k) = slice_index-replicate n k
 -- past the last place nothing is left
 pub drop_none : (n : ℕ) (xs : List ℕ) → slice_get xs n ≡ None → drop n xs ≡ []
 drop_none zero [] h = refl
-drop_none zero (x ∷ xs) h = absurd (none_some x (sym h))
+drop_none zero (x ∷ xs) h = absurd (none-some x (sym h))
 drop_none (suc n) [] h = refl
 drop_none (suc n) (x ∷ xs) h = drop_none n xs h
 

@@ -8,7 +8,8 @@ use Rattle.sets.specs.Sets.{has}
 use Rattle.sets.proofs.Bits.{has_past}
 use Rattle.dispenser.specs.Meaning.{Lawful, Stands, first, drawn}
 use Rattle.dispenser.specs.Rolled.{choice_tags, full_lane, roll_opens, full_roll, rolled, OpenByForm}
-use Rattle.dispenser.specs.Lanes.{same_meaning, none_some, slice_index-replicate, slice_get-drop, part_lawful, draw_empty, drop_none}
+use Rattle.std.proofs.lemmas.Option.{none-some}
+use Rattle.dispenser.specs.Lanes.{same_meaning, slice_index-replicate, slice_get-drop, part_lawful, draw_empty, drop_none}
 use Rattle.dispenser.specs.Tests.{all, all_at}
 
 -- ---- the open sets, by the form of a tag
@@ -50,10 +51,10 @@ choice_is i zero zero t h = inl (refl, refl, cc)
 choice_is i (suc zero) zero t h = inr (inl (refl, refl, cc))
 choice_is i (suc (suc zero)) zero t h = inr (inr (inl (refl, refl, cc)))
 choice_is i (suc (suc zero)) (suc zero) t h = inr (inr (inr (refl, refl, cc)))
-choice_is i zero (suc a) t h = absurd (none_some t h)
-choice_is i (suc zero) (suc a) t h = absurd (none_some t h)
-choice_is i (suc (suc zero)) (suc (suc a)) t h = absurd (none_some t h)
-choice_is i (suc (suc (suc c))) a t h = absurd (none_some t h)
+choice_is i zero (suc a) t h = absurd (none-some t h)
+choice_is i (suc zero) (suc a) t h = absurd (none-some t h)
+choice_is i (suc (suc zero)) (suc (suc a)) t h = absurd (none-some t h)
+choice_is i (suc (suc (suc c))) a t h = absurd (none-some t h)
 
 lane_past : (k : ℕ) → 48 ≤ k → full_lane k ≡ []
 lane_past k h = cond-false (nat_lt k 48) (choice_tags (k / 3) (k % 3)) [] (le-ltb k 48 h)
@@ -66,7 +67,7 @@ stands_is k a t h = go (cases_lt k 48)
   where
     go : (k < 48) ⊎ (48 ≤ k) → (k < 48) × Is (k / 3) (k % 3) a t
     go (inl l) = (l, choice_is (k / 3) (k % 3) a t (ap (λ xs. slice_get xs a) (sym (lane_is k l)) ∙ h))
-    go (inr l) = absurd (none_some t (ap (λ xs. slice_get xs a) (sym (lane_past k l)) ∙ h))
+    go (inr l) = absurd (none-some t (ap (λ xs. slice_get xs a) (sym (lane_past k l)) ∙ h))
 
 full_lawful : Lawful full_roll
 full_lawful = record {

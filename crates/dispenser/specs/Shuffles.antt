@@ -9,7 +9,8 @@ use Rattle.sets.specs.Sets.{has}
 use Rattle.sets.proofs.Bits.{has-those_below}
 use Rattle.dispenser.specs.Meaning.{Meaning, Lawful, Stands, first, drawn}
 use Rattle.dispenser.specs.Shuffled.{moved, back, forward_table, backward_table, moved_set, shuffled, Inverse}
-use Rattle.dispenser.specs.Lanes.{none_some, slice_get-own_map, drawn_by}
+use Rattle.std.proofs.lemmas.Option.{none-some, slice_get-map}
+use Rattle.dispenser.specs.Lanes.{drawn_by}
 use Rattle.dispenser.specs.Tests.{all, all_at, table_at}
 
 -- ---- one test over both tables
@@ -53,14 +54,14 @@ has-moved_set s n h =
 -- ---- the laws
 
 was : (f : ℕ → ℕ) (o : Option ℕ) (t : ℕ) → option_map f o ≡ Some t → (u : ℕ) × (o ≡ Some u) × (t ≡ f u)
-was f None t h = absurd (none_some t h)
+was f None t h = absurd (none-some t h)
 was f (Some u) t h = (u, refl, cc)
 
 module _ (m : Meaning) (laws : Lawful m) where
   -- what stands in the shuffle is a tag below, moved
   below : (k a t : ℕ) → Stands (shuffled m) k a t → (u : ℕ) × Stands m k a u × (t ≡ moved u) × (u < 64)
   below k a t h =
-      let w = was moved (slice_get (m.lane k) a) t (sym (slice_get-own_map moved (m.lane k) a) ∙ h) in
+      let w = was moved (slice_get (m.lane k) a) t (sym (slice_get-map moved (m.lane k) a) ∙ h) in
       (w.0, w.1, w.2, (laws.small k a w.0 w.1).1)
 
   pub shuffled_lawful : Lawful (shuffled m)
@@ -88,7 +89,7 @@ module _ (m : Meaning) (laws : Lawful m) where
 
 -- what a draw below answers, moved, is what a draw answers
 pub first_moved : (xs : List ℕ) (o : Option ℕ) → o ≡ first xs → option_map moved o ≡ first (map moved xs)
-first_moved xs o h = ap (option_map moved) h ∙ sym (slice_get-own_map moved xs 0)
+first_moved xs o h = ap (option_map moved) h ∙ sym (slice_get-map moved xs 0)
 
 pub shuffled_drawn : (m : Meaning) (k : ℕ) → shuffled (drawn m k) ≡ drawn (shuffled m) k
 shuffled_drawn m k =

@@ -3,7 +3,7 @@ use Rattle.std.proofs.Common.{◌≡◌, ℕ, ◌<◌, ◌≤◌, Bool, true, fa
 use Rattle.std.proofs.lemmas.Bool.{cases_eq, cases_lt, eqb-true, eq-eqb, ne_eqb, ltb-true, lt-ltb, le-ltb, and_parts, and_left, and_right, false≢true}
 use Rattle.sets.specs.Sets.{has}
 use Rattle.sets.proofs.Bits.{has_zero}
-use Rattle.dispenser.specs.Lanes.{none_some}
+use Rattle.std.proofs.lemmas.Option.{none-some}
 use Rattle.sheet.specs.Dealing.{blank, fault, left, placed, Sound}
 use Rattle.sheet.specs.Hands.{tried, valid, home, of_choice, ByHand}
 use Rattle.sheet.specs.declared.dealt.Dealt.{Dealt}
@@ -129,7 +129,7 @@ comes_home d (x ∷ xs) t sound new = go (cases_eq x.0 t) (verdict d x.0 x.1) (c
 -- ---- the sheet from the start
 
 home_small : (t k : ℕ) (xs : List (ℕ × ℕ)) → home t xs ≡ Some k → t < 64
-home_small t k [] h = absurd (none_some k h)
+home_small t k [] h = absurd (none-some k h)
 home_small t k (x ∷ xs) h = go (eqb x.0 t && valid t x.1) refl h (home_small t k xs)
   where
     go : (b : Bool) → (eqb x.0 t && valid t x.1) ≡ b → cond b (Some x.1) (home t xs) ≡ Some k → (home t xs ≡ Some k → t < 64) → t < 64

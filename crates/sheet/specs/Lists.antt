@@ -5,7 +5,7 @@ use Rattle.std.specs.List.{slice_get}
 use Rattle.std.proofs.lemmas.Bool.{cases_Bool, cases_eq, cases_order, false≢true}
 use Rattle.sets.specs.Sets.{has}
 use Rattle.sets.proofs.Bits.{has_zero}
-use Rattle.dispenser.specs.Lanes.{none_some}
+use Rattle.std.proofs.lemmas.Option.{none-some}
 use Rattle.sheet.specs.Tags.{tags_from, tags}
 
 take_in : (n i s : ℕ) → has i s ≡ true → tags_from (suc n) i s ≡ i ∷ tags_from n (suc i) s
@@ -22,7 +22,7 @@ Among n i s t = (has t s ≡ true) × (i ≤ t) × (t < i + n)
 
 among : (n i s a t : ℕ) → slice_get (tags_from n i s) a ≡ Some t → Among n i s t
 unfolding tags_from
-among zero i s a t h = absurd (none_some t h)
+among zero i s a t h = absurd (none-some t h)
 among (suc n) i s a t h = go (cases_Bool (has i s)) a h (λ b k. among n (suc i) s b t k)
   where
     wider : Among n (suc i) s t → Among (suc n) i s t
@@ -42,7 +42,7 @@ Rising n i s t u = (a b : ℕ) → slice_get (tags_from n i s) a ≡ Some t → 
 
 rising : (n i s t u : ℕ) → Rising n i s t u
 unfolding tags_from
-rising zero i s t u a b h k l = absurd (none_some t h)
+rising zero i s t u a b h k l = absurd (none-some t h)
 rising (suc n) i s t u a b h k l = go (cases_Bool (has i s)) (rising n (suc i) s t u)
   where
     here : Rising n (suc i) s t u → (a b : ℕ) → slice_get (i ∷ tags_from n (suc i) s) a ≡ Some t → slice_get (i ∷ tags_from n (suc i) s) b ≡ Some u → a < b → t < u
