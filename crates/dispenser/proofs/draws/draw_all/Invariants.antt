@@ -7,6 +7,6 @@ abbrev pub invariant-loop-draw : goal.invariant-loop-draw
 invariant-loop-draw g l =
     let m = g.D.Dispenser.meaning l.initial.dispenser in
     let n = g.D.Dispenser.meaning l.dispenser in
-    let to-come = lanes_of (drop l.draw-index l.draws) in
-    (take l.draw-index l.draws ++ answered n to-come ≡ answered m (lanes_of l.initial.draws))
-    × (after n to-come ≡ after m (lanes_of l.initial.draws))
+    let to_come = lanes_of (drop l.draw-index l.draws) in
+    (take l.draw-index l.draws ++ answered n to_come ≡ answered m (lanes_of l.initial.draws))
+    × (after n to_come ≡ after m (lanes_of l.initial.draws))
