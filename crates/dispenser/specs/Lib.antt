@@ -1,3 +1,4 @@
+pub mod Choices
 pub mod Meaning
 pub mod Draws
 pub mod Rolled

@@ -4,12 +4,16 @@
 ghost use Rattle.std.specs.Prelude.{◌≡◌};
 ghost use Rattle.dispenser.specs.Meaning.{Meaning, Lawful, first, drawn};
 
-mod backward;
+mod choice;
 pub mod draws;
-mod forward;
+mod lane;
 pub mod quota;
 pub mod roll;
 pub mod shuffle;
+mod tables;
+
+pub use choice::Choice;
+pub use lane::Lane;
 
 // The tags that everyone may add to a label, and those that everyone may take away.
 #[derive(Clone, Copy)]

@@ -4,7 +4,7 @@ ghost use Rattle.dispenser.specs.Meaning.{first, drawn};
 ghost use Rattle.dispenser.specs.Cut.{cut, quota, passed_on};
 ghost use Rattle.dispenser.specs.Cuts.{cut_lawful};
 
-use crate::{Dispenser, OpenSets};
+use crate::{Dispenser, Lane, OpenSets};
 
 // How many tags each lane may still give.
 #[derive(Clone, Copy)]
@@ -22,19 +22,18 @@ impl Allowance {
         }
     }
 
-    fn of(&self, lane: u8) -> u8
-        requires { lane < 48 }
+    fn of(&self, lane: Lane) -> u8
         ensures { result ≡ slice_index self.now.left lane }
     {
-        self.left[lane as usize]
+        self.left[lane.index()]
     }
 
-    fn spend(&mut self, lane: u8)
-        requires { (lane < 48) × (0 < slice_index self.old.left lane) }
+    fn spend(&mut self, lane: Lane)
+        requires { 0 < slice_index self.old.left lane }
         ensures { self.new.left ≡ slice_set self.old.left lane (slice_index self.old.left lane - 1) }
     {
         let left = self.of(lane);
-        self.left[lane as usize] = left - 1;
+        self.left[lane.index()] = left - 1;
     }
 }
 
@@ -60,11 +59,7 @@ impl<D: Dispenser> Quota<D> {
     pub fn into_below(self) -> D
         ensures { result ≡ self.below }
     {
-        let Quota {
-            below,
-            allowance: _,
-        } = self;
-        below
+        self.below
     }
 }
 
@@ -78,20 +73,13 @@ impl<D: Dispenser> Dispenser for Quota<D> {
         ensures left { cut (D.Dispenser.meaning self.new.below) self.new.allowance.left ≡ drawn (cut (D.Dispenser.meaning self.old.below) self.old.allowance.left) lane }
         ensures below { D.Dispenser.meaning self.new.below ≡ passed_on (D.Dispenser.meaning self.old.below) self.old.allowance.left lane }
     {
-        if lane > 47 {
+        let place = Lane::new(lane)?;
+        if self.allowance.of(place) == 0 {
             return None;
         }
-        let left = self.allowance.of(lane);
-        if left == 0 {
-            return None;
-        }
-        match self.below.draw(lane) {
-            Some(tag) => {
-                self.allowance.spend(lane);
-                Some(tag)
-            }
-            None => None,
-        }
+        let tag = self.below.draw(lane)?;
+        self.allowance.spend(place);
+        Some(tag)
     }
 
     fn open_sets(&self) -> OpenSets {

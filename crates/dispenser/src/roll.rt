@@ -1,10 +1,10 @@
 // The roll: every task has four tags of its own, by a formula.
-ghost use Rattle.std.specs.Prelude.{◌≡◌, ◌<◌, replicate};
+ghost use Rattle.std.specs.Prelude.{◌≡◌, ◌/◌, ◌%◌};
 ghost use Rattle.std.specs.List.{slice_get};
 ghost use Rattle.dispenser.specs.Rolled.{choice_tags, full_roll, rolled, OpenByForm};
 ghost use Rattle.dispenser.specs.Rolls.{rolled_lawful};
 
-use crate::{Dispenser, OpenSets};
+use crate::{Choice, Dispenser, Lane, OpenSets};
 
 // How many tags of each lane are gone.
 #[derive(Drop)]
@@ -13,10 +13,11 @@ pub struct Roll {
 }
 
 impl Roll {
+    #[tactic(auto, using(crate::specs::Rolls::rolled_none))]
     pub fn new() -> Roll
         ensures { rolled result.used ≡ full_roll }
     {
-        Roll { used: none_used() }
+        Roll { used: [0; 48] }
     }
 }
 
@@ -26,17 +27,11 @@ impl Dispenser for Roll {
     ghost lawful = { λ x. rolled_lawful x.used };
 
     fn draw(&mut self, lane: u8) -> Option<u8> {
-        if lane > 47 {
-            return None;
-        }
-        let used = self.used[lane as usize];
-        match tag_at(lane / 3, lane % 3, used) {
-            Some(tag) => {
-                self.used[lane as usize] = used + 1;
-                Some(tag)
-            }
-            None => None,
-        }
+        let lane = Lane::new(lane)?;
+        let used = self.used[lane.index()];
+        let tag = tag_at(lane, used)?;
+        self.used[lane.index()] = used + 1;
+        Some(tag)
     }
 
     fn open_sets(&self) -> OpenSets {
@@ -52,22 +47,16 @@ pub fn roll_is_open_by_form()
     ensures { OpenByForm }
 {}
 
-fn none_used() -> [u8; 48]
-    ensures { result ≡ replicate 48 0 }
+// The tag that the roll gives in a lane when it has given so many before.
+fn tag_at(lane: Lane, given: u8) -> Option<u8>
+    ensures { result ≡ slice_get (choice_tags (lane / 3) (lane % 3)) given }
 {
-    [0; 48]
-}
-
-// The tag that the roll gives a task for a choice when it has given so many before.
-fn tag_at(task: u8, choice: u8, given: u8) -> Option<u8>
-    requires { task < 16 }
-    ensures { result ≡ slice_get (choice_tags task choice) given }
-{
-    match (choice, given) {
-        (0, 0) => Some(4 * task),
-        (1, 0) => Some(4 * task + 3),
-        (2, 0) => Some(4 * task + 1),
-        (2, 1) => Some(4 * task + 2),
+    let task = lane.task();
+    match (lane.choice(), given) {
+        (Choice::Kept, 0) => Some(4 * task),
+        (Choice::Taking, 0) => Some(4 * task + 3),
+        (Choice::Adding, 0) => Some(4 * task + 1),
+        (Choice::Adding, 1) => Some(4 * task + 2),
         _ => None,
     }
 }

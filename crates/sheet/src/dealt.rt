@@ -1,9 +1,11 @@
 // What is dealt: the set of each lane, the two open sets, and the set of all tags dealt so far.
-ghost use Rattle.std.specs.Prelude.{◌≡◌, ◌%◌, ◌<◌, if◌then◌else◌, nat_eq};
+ghost use Rattle.std.specs.Prelude.{◌≡◌, ◌×◌, ◌%◌, None, Some, IfOk, IfErr, if◌then◌else◌, nat_eq};
 ghost use Rattle.sets.specs.Sets.{union};
-ghost use Rattle.sheet.specs.Dealing.{blank, fault, answer, placed};
+ghost use Rattle.dispenser.specs.Choices.{code};
+ghost use Rattle.sheet.specs.Dealing.{blank, fault, placed};
 
 use crate::DealRefusal;
+use dispenser::{Choice, Lane};
 
 #[derive(Clone, Copy)]
 pub(crate) struct Dealt {
@@ -25,38 +27,37 @@ impl Dealt {
         }
     }
 
-    pub(crate) fn check(&self, tag: u8, lane: u8) -> Result<(), DealRefusal>
-        ensures { result ≡ answer (fault self.now tag lane) }
+    // The lane, if there are such a tag and lane and the tag has none yet.
+    pub(crate) fn check(&self, tag: u8, lane: u8) -> Result<Lane, DealRefusal>
+        ensures ok { IfOk result (λ l. (l ≡ lane) × (fault self.now tag lane ≡ None)) }
+        ensures err { IfErr result (λ refusal. fault self.now tag lane ≡ Some refusal) }
     {
         if tag > 63 {
             return Err(DealRefusal::NoSuchTag);
         }
-        if lane > 47 {
-            return Err(DealRefusal::NoSuchLane);
-        }
+        let lane = Lane::new(lane).ok_or(DealRefusal::NoSuchLane)?;
         if sets::has(self.all, tag) {
             return Err(DealRefusal::DealtBefore);
         }
-        Ok(())
+        Ok(lane)
     }
 
-    pub(crate) fn place(&mut self, tag: u8, lane: u8)
-        requires { lane < 48 }
+    pub(crate) fn place(&mut self, tag: u8, lane: Lane)
         ensures { self.new ≡ placed self.old tag lane }
     {
         let one = sets::only(tag);
-        self.lanes[lane as usize] = sets::union(self.lanes[lane as usize], one);
-        self.adding = with_choice(self.adding, one, lane, 2);
-        self.taking = with_choice(self.taking, one, lane, 1);
+        self.lanes[lane.index()] = sets::union(self.lanes[lane.index()], one);
+        self.adding = with_choice(self.adding, one, lane, Choice::Adding);
+        self.taking = with_choice(self.taking, one, lane, Choice::Taking);
         self.all = sets::union(self.all, one);
     }
 }
 
 // The set with the tag, where the lane is of that choice.
-fn with_choice(set: u64, one: u64, lane: u8, choice: u8) -> u64
-    ensures { result ≡ (if nat_eq (lane % 3) choice then union set one else set) }
+fn with_choice(set: u64, one: u64, lane: Lane, choice: Choice) -> u64
+    ensures { result ≡ (if nat_eq (lane % 3) (code choice) then union set one else set) }
 {
-    if lane % 3 == choice {
+    if lane.choice() == choice {
         sets::union(set, one)
     } else {
         set

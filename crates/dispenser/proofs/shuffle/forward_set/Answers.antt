@@ -1,17 +1,16 @@
-use Rattle.std.proofs.Common.{ℕ, Bool, sym, refl, ap, ◌∙◌, ap₂, add-one, arith}
-use Rattle.sets.specs.Sets.{has, union, those_below}
+use Rattle.std.proofs.Common.{ℕ, Bool, refl, ◌∙◌, rules, arith}
+use borrow.Author.Tests.{tests}
+use Rattle.std.proofs.lemmas.Iterator.{YieldsList-from_range}
+use Rattle.std.proofs.lemmas.Iterator.Consumers.{YieldsList-from_filter, fold_from_yields_List}
+use Rattle.sets.specs.Sets.{has, union, only}
 use Rattle.dispenser.specs.Shuffled.{back}
+use Rattle.dispenser.proofs.Gathered.{gathered}
 use Rattle.dispenser.proofs.shuffle.forward_set.Goals as goal
 
-pub loop-n-init : goal.loop-n-init
-unfolding those_below
-loop-n-init c = refl
-
-pub loop-n-preserved : goal.loop-n-preserved
-unfolding those_below
-loop-n-preserved c =
-    let f : ℕ → Bool = λ n. has (back n) c.args.tags in
-    c.union-all.ensures ∙ ap₂ union c.loop-n.invariant c.forward_bit.ensures ∙ ap (those_below f) (sym (add-one c.loop-n.n))
-
 pub returns : goal.returns
-returns c = c.loop-n.invariant ∙ ap (those_below (λ n. has (back n) c.args.tags)) (omega arith)
+returns c =
+    let f : ℕ → Bool = λ n. has (back n) c.args.tags in
+    fold_from_yields_List _ (λ all n. union all (only n)) 0 _ c.fold.ensures.ran
+    (YieldsList-from_filter _ f (YieldsList-from_range 0 64 64 c.filter.ensures.source refl) c.filter.ensures.closure (λ x b q k. search (rules, tests)))
+    (λ a x b q k. search rules)
+    ∙ gathered f 64 (omega arith)
