@@ -2,18 +2,20 @@
 #![tactic(auto)]
 
 ghost use Rattle.std.specs.Prelude.{◌≡◌, None};
-ghost use Rattle.deal.specs.Names.{choice_text};
 
 use dispenser::draws::{Draw, draw_all};
 use dispenser::quota::Quota;
 use dispenser::roll::Roll;
 use dispenser::shuffle::Shuffle;
-use dispenser::{Dispenser, OpenSets};
+use dispenser::{Dispenser, Lane, OpenSets};
 use sheet::{Deal, Sheet};
 use std::io;
 
 // A tag and the lane it is dealt to.
 const DEALS: [(u8, u8); 6] = [(9, 2), (4, 2), (40, 2), (33, 47), (5, 0), (63, 1)];
+
+// Two tasks draw in turn until their lanes are empty; then task 0 on its other lanes; lane 48 is nobody's.
+const LANES: [u8; 11] = [2, 47, 2, 47, 2, 47, 0, 0, 1, 1, 48];
 
 fn main(rt: HostRuntime) -> io::Result<()> {
     let sheet = dealt(&rt)?;
@@ -50,10 +52,7 @@ fn dealt(rt: &impl Print) -> io::Result<Sheet> {
 fn deal_one(rt: &impl Print, deal: &mut Deal, tag: u8, lane: u8) -> io::Result<()> {
     match deal.deal(tag, lane) {
         Ok(()) => println!(rt; "tag {tag} to lane {lane}: dealt"),
-        Err(refusal) => {
-            let number = refusal.number();
-            println!(rt; "tag {tag} to lane {lane}: refused {number}")
-        }
+        Err(refusal) => println!(rt; "tag {tag} to lane {lane}: refused {}", u8::from(refusal)),
     }
 }
 
@@ -63,20 +62,7 @@ fn show<D: Dispenser>(rt: &impl Print, title: &str, dispenser: &mut D) -> io::Re
     println!(rt; "  open to adding      {adding:016x}")?;
     println!(rt; "  open to taking away {taking:016x}")?;
     println!(rt; "  task  choice               lane  tag")?;
-    // Two tasks draw in turn until their lanes are empty; then task 0 on its other lanes; lane 48 is nobody's.
-    let mut draws = [
-        on(2),
-        on(47),
-        on(2),
-        on(47),
-        on(2),
-        on(47),
-        on(0),
-        on(0),
-        on(1),
-        on(1),
-        on(48),
-    ];
+    let mut draws = LANES.map(on);
     draw_all(dispenser, &mut draws);
     for draw in draws {
         print_draw(rt, draw)?;
@@ -92,26 +78,13 @@ fn on(lane: u8) -> Draw
 }
 
 fn print_draw(rt: &impl Print, draw: Draw) -> io::Result<()> {
-    let lane = draw.lane;
-    if lane < 48 {
-        let task = lane / 3;
-        let choice = choice_name(lane % 3);
-        print!(rt; "  {task:>4}  {choice:<19}  {lane:>4}")?;
-    } else {
-        print!(rt; "     -  {:<19}  {lane:>4}", "-")?;
-    }
+    let number = draw.lane;
+    match Lane::new(number) {
+        Some(lane) => print!(rt; "  {:>4}  {:<19}  {number:>4}", lane.task(), lane.choice()),
+        None => print!(rt; "     -  {:<19}  {number:>4}", "-"),
+    }?;
     match draw.tag {
         Some(tag) => println!(rt; "  {tag:>3}"),
         None => println!(rt; "    -"),
-    }
-}
-
-fn choice_name(choice: u8) -> &'static str
-    ensures { result.now ≡ choice_text choice }
-{
-    match choice {
-        0 => "kept",
-        1 => "open to taking away",
-        _ => "open to adding",
     }
 }

@@ -3,6 +3,7 @@ use Rattle.std.proofs.Common.{◌≡◌, ℕ, ◌%◌, ◌<◌, ◌≤◌, Bool,
 use Rattle.std.proofs.lemmas.List.{get_or-set_same, get_or-set_other}
 use Rattle.std.proofs.lemmas.Bool.{cases_eq, cases_lt, cases_Bool, eq-eqb, ne_eqb, eqb-true, lt-ltb, le-ltb, or_left, or_right, false≢true}
 use Rattle.std.proofs.lemmas.Bool.Decides.{nat_tests}
+use Rattle.std.proofs.lemmas.Option.{none-some}
 use Rattle.sets.specs.Sets.{has, union, only}
 use Rattle.sets.proofs.Bits.{has_zero, has-bit_or, has-only}
 use Rattle.dispenser.specs.Lanes.{slice_index-replicate}
@@ -47,14 +48,11 @@ verdict d tag lane = go (cases_lt 63 tag) (cases_lt 47 lane) (cases_Bool (has ta
     go (inr a) (inr b) (inl c) = inl (DealtBefore, rw (le-ltb 63 tag a, le-ltb 47 lane b, c), λ f. false≢true (sym f.2 ∙ c))
     go (inr a) (inr b) (inr c) = inr (rw (le-ltb 63 tag a, le-ltb 47 lane b, c), (omega arith, omega arith, c))
 
-pub checked : (d : Dealt) (tag lane : ℕ) → Ok tt ≡ answer (fault d tag lane) → Fine d tag lane
+pub checked : (d : Dealt) (tag lane : ℕ) → fault d tag lane ≡ None → Fine d tag lane
 checked d tag lane h = go (verdict d tag lane)
   where
-    never : (e : DealRefusal) → fault d tag lane ≡ Some e → ⊥
-    never e q = let z : ◌≡◌ {A = ℕ} 0 1 = let r = h ∙ ap answer q in cc in omega arith
-
     go : Verdict d tag lane → Fine d tag lane
-    go (inl r) = absurd (never r.0 r.1)
+    go (inl r) = absurd (none-some r.0 (sym h ∙ r.1))
     go (inr f) = f.1
 
 same_homed : (l m : ℕ → Bool) (a b c p q r : Bool) → ((k : ℕ) → m k ≡ l k) → p ≡ a → q ≡ b → r ≡ c → Homed l a b c → Homed m p q r

@@ -1,5 +1,5 @@
 // What is dealt: the set of each lane, the two open sets, and the set of all tags dealt so far.
-ghost use Rattle.std.specs.Prelude.{◌≡◌, ◌×◌, ◌%◌, None, Some, IfOk, IfErr, if◌then◌else◌, nat_eq};
+ghost use Rattle.std.specs.Prelude.{◌≡◌, ◌%◌, None, Some, IfOk, IfErr, if◌then◌else◌, nat_eq};
 ghost use Rattle.sets.specs.Sets.{union};
 ghost use Rattle.dispenser.specs.Choices.{code};
 ghost use Rattle.sheet.specs.Dealing.{blank, fault, placed};

@@ -12,15 +12,8 @@ mod dealt;
 pub mod refusal;
 
 use dealt::Dealt;
-use dispenser::{Dispenser, OpenSets};
+use dispenser::{Dispenser, Lane, OpenSets};
 pub use refusal::DealRefusal;
-
-// A sheet that is being dealt. It is no dispenser yet.
-#[derive(Drop)]
-pub struct Deal {
-    dealt: Dealt,
-    ghost sound: { ∥ Sound dealt ∥₁ },
-}
 
 // A finished sheet, which takes no more tags.
 #[derive(Drop)]
@@ -29,32 +22,38 @@ pub struct Sheet {
     ghost sound: { ∥ Sound dealt ∥₁ },
 }
 
+// A sheet that is being dealt. It is no dispenser yet.
+#[derive(Drop)]
+pub struct Deal {
+    sheet: Sheet,
+}
+
 impl Deal {
     // Whatever deals are then tried, each tag lies where it was first dealt.
     pub fn new() -> Deal
-        ensures blank { result.dealt ≡ blank }
-        ensures by_hand { (deals : List (ℕ × ℕ)) → ByHand (tried result.dealt deals) deals }
+        ensures blank { result.sheet.dealt ≡ blank }
+        ensures by_hand { (deals : List (ℕ × ℕ)) → ByHand (tried result.sheet.dealt deals) deals }
     {
-        Deal {
+        let sheet = Sheet {
             dealt: Dealt::new(),
-        }
+        };
+        Deal { sheet }
     }
 
     // Gives the tag to the lane, if there are such a tag and lane and the tag has none yet.
     pub fn deal(&mut self, tag: u8, lane: u8) -> Result<(), DealRefusal>
-        ensures answer { result ≡ answer (fault self.old.dealt tag lane) }
-        ensures left { self.new.dealt ≡ left self.old.dealt tag lane (fault self.old.dealt tag lane) }
+        ensures answer { result ≡ answer (fault self.old.sheet.dealt tag lane) }
+        ensures left { self.new.sheet.dealt ≡ left self.old.sheet.dealt tag lane (fault self.old.sheet.dealt tag lane) }
     {
-        self.dealt.check(tag, lane)?;
-        self.dealt.place(tag, lane);
+        let lane = self.sheet.dealt.check(tag, lane)?;
+        self.sheet.dealt.place(tag, lane);
         Ok(())
     }
 
     pub fn finish(self) -> Sheet
-        ensures { result.dealt ≡ self.dealt }
+        ensures { result ≡ self.sheet }
     {
-        let Deal { dealt } = self;
-        Sheet { dealt }
+        self.sheet
     }
 }
 
@@ -63,16 +62,15 @@ impl Dispenser for Sheet {
 
     ghost lawful = { λ x. Laws.lawful x.dealt x.sound };
 
+    #[tactic(auto, using(crate::specs::Lists::tags_empty))]
     fn draw(&mut self, lane: u8) -> Option<u8> {
-        if lane > 47 {
-            return None;
-        }
-        let set = self.dealt.lanes[lane as usize];
+        let at = Lane::new(lane)?.index();
+        let set = self.dealt.lanes[at];
         if set == 0 {
             return None;
         }
         let tag = lowest(set);
-        self.dealt.lanes[lane as usize] = cleared(set, tag);
+        self.dealt.lanes[at] = cleared(set, tag);
         Some(tag)
     }
 

@@ -9,12 +9,12 @@ pub enum DealRefusal {
     DealtBefore,
 }
 
-impl DealRefusal {
-    // The number under which the refusal is listed.
-    pub fn number(self) -> u8
-        ensures { result ≡ number self }
-    {
-        match self {
+// The number under which the refusal is listed.
+impl From<DealRefusal> for u8 {
+    ghost from_gives = { λ refusal n. n ≡ number refusal };
+
+    fn from(refusal: DealRefusal) -> u8 {
+        match refusal {
             DealRefusal::NoSuchTag => 2,
             DealRefusal::NoSuchLane => 2,
             DealRefusal::DealtBefore => 2,

@@ -6,11 +6,8 @@ use Rattle.sheet.proofs.Deals.{blank_sound}
 use Rattle.sheet.proofs.Homes.{by_hand}
 use Rattle.sheet.proofs.Deal.new.Goals as goal
 
-pub invariant_of-result : goal.invariant_of-result
-invariant_of-result c = record { sound = ∣ subst (λ (d : Dealt). Sound d) (sym c.new.ensures) blank_sound ∣₁ }
+pub invariant_of-sheet : goal.invariant_of-sheet
+invariant_of-sheet c = record { sound = ∣ subst (λ (d : Dealt). Sound d) (sym c.new.ensures) blank_sound ∣₁ }
 
-pub returns : goal.returns
-returns c = record {
-  blank = c.new.ensures;
-  by_hand = λ deals. subst (λ (d : Dealt). ByHand (tried d deals) deals) (sym c.new.ensures) (by_hand deals);
-}
+pub returns-clause-by_hand : goal.returns-clause-by_hand
+returns-clause-by_hand c deals = subst (λ (d : Dealt). ByHand (tried d deals) deals) (sym c.new.ensures) (by_hand deals)

@@ -1,36 +1,42 @@
-use Rattle.std.proofs.Common.{◌≡◌, ℕ, ◌^◌, ◌<◌, true, length, get_or, Some, sym, ap, ◌∙◌, arith, rules}
+use Rattle.std.proofs.Common.{◌≡◌, ℕ, ◌^◌, ◌<◌, ◌≤◌, true, length, get_or, Some, sym, ap, ◌∙◌, arith, rules}
 use mathlib.Core.Logic.{∥∥₁_map}
 use lib.Count.{count_trailing_zeros}
+use Rattle.std.proofs.lemmas.Bool.{false≢true}
 use Rattle.sets.specs.Sets.{has, without, only}
+use Rattle.dispenser.specs.Meaning.{first, drawn}
 use Rattle.dispenser.specs.Lanes.{draw_empty, past_empty}
 use Rattle.sheet.specs.Dealing.{sheet}
 use Rattle.sheet.specs.Laws.{lawful}
-use Rattle.sheet.proofs.Draws.{with_lane, less_sound, cleared_part, draw_none, draw_lowest}
+use Rattle.sheet.proofs.Draws.{with_lane, less_sound, cleared_part, draw_lowest}
 use Rattle.sheet.proofs.SheetDispenser.draw.Goals as goal
 
-pub returns-then-lane-gt47 : goal.returns-then-lane-gt47
-returns-then-lane-gt47 c =
+pub returns-in_err-new : goal.returns-in_err-new
+returns-in_err-new c =
     let s = c.args.self.now in
-    draw_empty (sheet s.dealt) c.args.lane (past_empty (sheet s.dealt) (lawful s.dealt s.sound) c.args.lane (omega arith))
-
-pub returns-then-set-eq0 : goal.returns-then-set-eq0
-returns-then-set-eq0 c = draw_none c.args.self.now.dealt c.args.lane c.if-set-eq0.true
+    let no : c.args.lane < 48 → ⊥ = λ l. false≢true (c.in_err-new.ensures.there.1 l) in
+    let h : 48 ≤ c.args.lane = omega (arith, no) in
+    let q = draw_empty (sheet s.dealt) c.args.lane (past_empty (sheet s.dealt) (lawful s.dealt s.sound) c.args.lane h) in
+    record { answer = c.from_residual.ensures ∙ q.answer; left = q.left }
 
 -- the set that is stored is the lane's without its lowest tag
 pub invariant_of-self : goal.invariant_of-self
 invariant_of-self c =
     let s = c.args.self.now in
-    let k = c.args.lane in
-    let set = get_or s.dealt.lanes k 0 in
+    let set = get_or s.dealt.lanes c.index-at.result 0 in
     let part : (t : ℕ) → has t c.cleared.result ≡ true → has t set ≡ true = λ t h. cleared_part set c.lowest-tag.result t (ap (has t) (sym c.cleared.ensures) ∙ h) in
-    record { sound = ∥∥₁_map s.sound (less_sound s.dealt k c.cleared.result (omega arith) part) }
+    record { sound = ∥∥₁_map s.sound (less_sound s.dealt c.index-at.result c.cleared.result c.index-at.ensures.in_range part) }
 
 pub returns : goal.returns
 returns c =
     let d = c.args.self.now.dealt in
-    let k = c.args.lane in
+    let k = c.index-at.result in
+    let set = get_or d.lanes k 0 in
     let l : k < length d.lanes = search rules in
-    let h : get_or d.lanes k 0 < 2 ^ 64 = search rules in
+    let h : set < 2 ^ 64 = search rules in
     let r = draw_lowest d k l h c.if-set-eq0.false in
-    let e : c.cleared.result ≡ without (get_or d.lanes k 0) (only (count_trailing_zeros 64 (get_or d.lanes k 0))) = c.cleared.ensures ∙ ap (λ z. without (get_or d.lanes k 0) (only z)) c.lowest-tag.ensures in
-    record { answer = ap Some c.lowest-tag.ensures ∙ r.answer; left = ap (λ x. sheet (with_lane d k x)) e ∙ r.left }
+    let e : c.cleared.result ≡ without set (only (count_trailing_zeros 64 set)) = c.cleared.ensures ∙ ap (λ z. without set (only z)) c.lowest-tag.ensures in
+    let lane : k ≡ c.args.lane = c.index-at.ensures.same ∙ c.in_ok-new.ensures.same in
+    record {
+      answer = ap Some c.lowest-tag.ensures ∙ r.answer ∙ ap (λ j. first ((sheet d).lane j)) lane;
+      left = ap (λ x. sheet (with_lane d k x)) e ∙ r.left ∙ ap (drawn (sheet d)) lane;
+    }
