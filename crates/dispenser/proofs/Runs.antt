@@ -1,10 +1,10 @@
 -- Runs of draws: the two laws, and one turn of a loop. Assumes nothing.
 use Rattle.std.proofs.Common.{◌≡◌, ℕ, zero, suc, ◌+◌, ◌<◌, Bool, true, false, cond, eqb, List, [], ◌∷◌, ◌++◌, length, get_or, take, drop, set, Some, sym, refl, ap, ◌∙◌, ap₂, zero-add, arith}
-use Rattle.std.specs.List.{slice_get}
+use Rattle.std.specs.List.{slice_get, filter}
 use Rattle.std.proofs.lemmas.List.{append_assoc, drop-set-lt, drop_more, take_more_set}
 use Rattle.std.proofs.lemmas.Bool.{eq-eqb, ne_eqb, false≢true}
 use Rattle.dispenser.specs.Meaning.{Meaning, Lawful, Stands, first, drawn}
-use Rattle.dispenser.specs.Draws.{lanes_of, answered, after, NeverTwice, kept, OwnLanesOnly}
+use Rattle.dispenser.specs.Draws.{lanes_of, answered, after, NeverTwice, OwnLanesOnly}
 use Rattle.dispenser.specs.declared.draws.Draw.{Draw}
 use Rattle.std.proofs.lemmas.Option.{none-some}
 use Rattle.dispenser.specs.Lanes.{slice_get-drop, part_lawful}
@@ -66,22 +66,22 @@ agree_drawn mine m n k f j h = ap (λ xs. cond (eqb j k) (drop 1 xs) xs) (f j h)
 agree_other : (mine : ℕ → Bool) (m : Meaning) (k : ℕ) → mine k ≡ false → Agree mine (drawn m k) m
 agree_other mine m k e j h = rw (ne_eqb j k (λ q. false≢true (sym e ∙ ap mine (sym q) ∙ h)))
 
-same_answers : (mine : ℕ → Bool) (m n : Meaning) (ks : List ℕ) → Agree mine m n → answered m (kept mine ks) ≡ answered n (kept mine ks)
+same_answers : (mine : ℕ → Bool) (m n : Meaning) (ks : List ℕ) → Agree mine m n → answered m (filter mine ks) ≡ answered n (filter mine ks)
 same_answers mine m n [] f = refl
 same_answers mine m n (k ∷ ks) f = go (mine k) refl (same_answers mine (drawn m k) (drawn n k) ks (agree_drawn mine m n k f)) (same_answers mine m n ks f)
   where
-    go : (b : Bool) → mine k ≡ b → answered (drawn m k) (kept mine ks) ≡ answered (drawn n k) (kept mine ks) → answered m (kept mine ks) ≡ answered n (kept mine ks)
-        → answered m (cond b (k ∷ kept mine ks) (kept mine ks)) ≡ answered n (cond b (k ∷ kept mine ks) (kept mine ks))
+    go : (b : Bool) → mine k ≡ b → answered (drawn m k) (filter mine ks) ≡ answered (drawn n k) (filter mine ks) → answered m (filter mine ks) ≡ answered n (filter mine ks)
+        → answered m (cond b (k ∷ filter mine ks) (filter mine ks)) ≡ answered n (cond b (k ∷ filter mine ks) (filter mine ks))
     go true e r s = λ i. record { lane = k; tag = first (f k e i) } ∷ r i
     go false e r s = s
 
 -- what of a run is mine is a run of what is mine
-mine_alone : (mine : ℕ → Bool) (m : Meaning) (ks : List ℕ) → kept (λ (d : Draw). mine d.lane) (answered m ks) ≡ answered m (kept mine ks)
+mine_alone : (mine : ℕ → Bool) (m : Meaning) (ks : List ℕ) → filter (λ (d : Draw). mine d.lane) (answered m ks) ≡ answered m (filter mine ks)
 mine_alone mine m [] = refl
 mine_alone mine m (k ∷ ks) = go (mine k) refl (mine_alone mine (drawn m k) ks)
   where
-    go : (b : Bool) → mine k ≡ b → kept (λ (d : Draw). mine d.lane) (answered (drawn m k) ks) ≡ answered (drawn m k) (kept mine ks)
-        → cond b (record { lane = k; tag = first (m.lane k) } ∷ kept (λ (d : Draw). mine d.lane) (answered (drawn m k) ks)) (kept (λ (d : Draw). mine d.lane) (answered (drawn m k) ks)) ≡ answered m (cond b (k ∷ kept mine ks) (kept mine ks))
+    go : (b : Bool) → mine k ≡ b → filter (λ (d : Draw). mine d.lane) (answered (drawn m k) ks) ≡ answered (drawn m k) (filter mine ks)
+        → cond b (record { lane = k; tag = first (m.lane k) } ∷ filter (λ (d : Draw). mine d.lane) (answered (drawn m k) ks)) (filter (λ (d : Draw). mine d.lane) (answered (drawn m k) ks)) ≡ answered m (cond b (k ∷ filter mine ks) (filter mine ks))
     go true e r = ap (λ xs. record { lane = k; tag = first (m.lane k) } ∷ xs) r
     go false e r = r ∙ same_answers mine (drawn m k) m ks (agree_other mine m k e)
 

@@ -1,24 +1,16 @@
 -- The quota keeps the laws, and its draws. Assumes nothing.
-use Rattle.std.specs.Prelude.{◌≡◌, ℕ, zero, suc, ◌-◌, ◌<◌, ◌≤◌, min, Bool, true, false, cond, ◌⊎◌, List, [], ◌∷◌, length, take, drop, replicate, nat_lt, slice_index, slice_range, slice_set, refl}
+use Rattle.std.specs.Prelude.{◌≡◌, ℕ, zero, suc, ◌-◌, ◌<◌, ◌≤◌, min, ◌⊎◌, List, [], ◌∷◌, length, take, drop, replicate, slice_index, slice_range, slice_set, refl}
 use Rattle.std.proofs.Common.{sym, ap, ◌∙◌, inl, inr, zero-add, arith}
+use Rattle.std.proofs.Math.Seq.{take-nil}
 use Rattle.std.proofs.lemmas.List.{get_or-set_same, get_or-set_other, get_or-replicate, get_or_past}
-use Rattle.std.proofs.lemmas.Bool.{cases_lt, eq-eqb, ne_eqb, lt-ltb}
-use Rattle.dispenser.specs.Meaning.{Meaning, Lawful, first, drawn}
-use Rattle.dispenser.specs.Cut.{cut, quota, passed_on}
-use Rattle.dispenser.specs.Lanes.{same_meaning, slice_get-take, part_lawful, past_empty, drawn_by, drawn_empty}
-
-take_empty : (n : ℕ) → take {A = ℕ} n [] ≡ []
-take_empty zero = refl
-take_empty (suc n) = refl
-
-pub first_take : (n : ℕ) (xs : List ℕ) → 0 < n → first (take n xs) ≡ first xs
-first_take zero xs h = absurd (omega arith)
-first_take (suc n) [] h = refl
-first_take (suc n) (x ∷ xs) h = refl
+use Rattle.std.proofs.lemmas.Bool.{cases_lt, eq-eqb, ne_eqb}
+use Rattle.dispenser.specs.Meaning.{Meaning, Lawful, drawn}
+use Rattle.dispenser.specs.Cut.{cut, quota}
+use Rattle.dispenser.specs.Lanes.{same_meaning, slice_get-take, part_lawful, past_empty, drawn_by}
 
 rest_take : (n : ℕ) (xs : List ℕ) → 0 < n → slice_range xs 1 n ≡ drop 1 (take n xs)
 rest_take zero xs h = absurd (omega arith)
-rest_take (suc n) [] h = take_empty (suc n - 1)
+rest_take (suc n) [] h = take-nil (suc n - 1)
 rest_take (suc n) (x ∷ xs) h = ap (λ i. take i xs) (omega arith)
 
 pub cut_lawful : (m : Meaning) (left : List ℕ) → Lawful m → Lawful (cut m left)
@@ -32,11 +24,7 @@ cut_new m q laws = same_meaning (cut m (replicate 48 (min q 3))) (quota m q) (λ
   where
     go : (k : ℕ) → (k < 48) ⊎ (48 ≤ k) → take (slice_index (replicate 48 (min q 3)) k) (m.lane k) ≡ take (min q 3) (m.lane k)
     go k (inl h) = ap (λ n. take n (m.lane k)) (get_or-replicate 48 k (min q 3) 0 h)
-    go k (inr h) = rw (past_empty m laws k h) (take_empty _ ∙ sym (take_empty (min q 3)))
-
--- a lane that is empty below is empty
-pub cut_empty : (m : Meaning) (left : List ℕ) (k : ℕ) → m.lane k ≡ [] → (cut m left).lane k ≡ []
-cut_empty m left k e = ap (take (slice_index left k)) e ∙ take_empty (slice_index left k)
+    go k (inr h) = rw (past_empty m laws k h) (take-nil _ ∙ sym (take-nil (min q 3)))
 
 pub cut_drawn : (m : Meaning) (left : List ℕ) (k : ℕ) → 0 < slice_index left k → cut (drawn m k) (slice_set left k (slice_index left k - 1)) ≡ drawn (cut m left) k
 cut_drawn m left k h =
@@ -48,18 +36,3 @@ cut_drawn m left k h =
     inside : (k < length left) ⊎ (length left ≤ k) → k < length left
     inside (inl l) = l
     inside (inr l) = absurd (omega (arith, get_or_past left k 0 l))
-
--- ---- what a draw leaves below
-
-pub passed_past : (m : Meaning) (left : List ℕ) (k : ℕ) → Lawful m → 48 ≤ k → m ≡ passed_on m left k
-passed_past m left k laws h = go (nat_lt 0 (slice_index left k))
-  where
-    go : (b : Bool) → m ≡ cond b (drawn m k) m
-    go true = sym (drawn_empty m k (past_empty m laws k h))
-    go false = refl
-
-pub passed_none : (m : Meaning) (left : List ℕ) (k : ℕ) → slice_index left k ≡ 0 → m ≡ passed_on m left k
-passed_none m left k e = rw e
-
-pub passed_some : (m : Meaning) (left : List ℕ) (k : ℕ) → 0 < slice_index left k → drawn m k ≡ passed_on m left k
-passed_some m left k h = rw (lt-ltb 0 (slice_index left k) h)

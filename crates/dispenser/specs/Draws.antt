@@ -1,6 +1,6 @@
 -- Runs of draws: what each answers, and two laws over every run. Assumes nothing.
-use Rattle.std.specs.Prelude.{◌≡◌, ℕ, Bool, true, cond, List, [], ◌∷◌, map, Some}
-use Rattle.std.specs.List.{slice_get}
+use Rattle.std.specs.Prelude.{◌≡◌, ℕ, Bool, true, List, [], ◌∷◌, map, Some}
+use Rattle.std.specs.List.{slice_get, filter}
 use Rattle.dispenser.specs.Meaning.{Meaning, first, drawn}
 use Rattle.dispenser.specs.declared.draws.Draw.{Draw}
 
@@ -21,14 +21,9 @@ after m (k ∷ ks) = after (drawn m k) ks
 abbrev pub NeverTwice : Meaning → Type 0
 NeverTwice m = (ks : List ℕ) (i j t : ℕ) (x y : Draw) → slice_get (answered m ks) i ≡ Some x → slice_get (answered m ks) j ≡ Some y → x.tag ≡ Some t → y.tag ≡ Some t → i ≡ j
 
--- what of a list passes a test
-abbrev pub kept : {A : Type 0} → (A → Bool) → List A → List A
-kept f [] = []
-kept f (x ∷ xs) = cond (f x) (x ∷ kept f xs) (kept f xs)
-
 -- Whoever draws on some lanes only learns nothing of the draws on others: in two runs, of dispensers alike in those
 -- lanes, with the same draws on those lanes in the same order, these draws have the same answers.
 abbrev pub OwnLanesOnly : Meaning → Type 0
 OwnLanesOnly m =
-    (mine : ℕ → Bool) (n : Meaning) (ks ls : List ℕ) → ((k : ℕ) → mine k ≡ true → m.lane k ≡ n.lane k) → kept mine ks ≡ kept mine ls →
-    kept (λ d. mine d.lane) (answered m ks) ≡ kept (λ d. mine d.lane) (answered n ls)
+    (mine : ℕ → Bool) (n : Meaning) (ks ls : List ℕ) → ((k : ℕ) → mine k ≡ true → m.lane k ≡ n.lane k) → filter mine ks ≡ filter mine ls →
+    filter (λ d. mine d.lane) (answered m ks) ≡ filter (λ d. mine d.lane) (answered n ls)

@@ -26,16 +26,6 @@ slice_index-replicate zero k = refl
 slice_index-replicate (suc n) zero = refl
 slice_index-replicate (suc n) (suc k) = slice_index-replicate n k
 
--- past the last place nothing is left
-pub drop_none : (n : ℕ) (xs : List ℕ) → slice_get xs n ≡ None → drop n xs ≡ []
-drop_none zero [] h = refl
-drop_none zero (x ∷ xs) h = absurd (none-some x (sym h))
-drop_none (suc n) [] h = refl
-drop_none (suc n) (x ∷ xs) h = drop_none n xs h
-
-pub none_empty : (xs : List ℕ) → None ≡ first xs → xs ≡ []
-none_empty xs h = drop_none 0 xs (sym h)
-
 -- ---- draws
 
 pub same_meaning : (m n : Meaning) → ((k : ℕ) → m.lane k ≡ n.lane k) → m.opens ≡ n.opens → m ≡ n

@@ -7,5 +7,4 @@ pub mod Cut
 pub mod Cuts
 pub mod Lanes
 pub mod Rolls
-pub mod Tests
 pub mod Shuffles

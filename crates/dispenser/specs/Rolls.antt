@@ -1,42 +1,24 @@
 -- The roll keeps the laws, and its draws. Assumes nothing.
-use Rattle.std.specs.Prelude.{◌≡◌, ℕ, zero, suc, ◌+◌, ◌*◌, ◌/◌, ◌%◌, ◌<◌, ◌≤◌, Bool, true, false, ◌&&◌, ◌||◌, ◌⊎◌, List, [], drop, replicate, Some, None, ◌==◌, nat_lt, slice_index, refl}
+use Rattle.std.specs.Prelude.{◌≡◌, ℕ, zero, suc, ◌+◌, ◌*◌, ◌/◌, ◌%◌, ◌<◌, ◌≤◌, false, ◌&&◌, ◌||◌, ◌⊎◌, List, [], drop, replicate, Some, ◌==◌, nat_lt, slice_index, refl}
 use Rattle.std.proofs.Common.{sym, ap, ◌∙◌, inl, inr, arith}
 use Rattle.std.specs.List.{slice_get}
-use Rattle.std.proofs.lemmas.Bool.{and_parts, lt-ltb, le-ltb, cond-true, cond-false, cases_lt}
+use Rattle.std.proofs.lemmas.Bool.{agree_below_at, lt-ltb, le-ltb, cond-true, cond-false, cases_lt}
 use Rattle.std.proofs.lemmas.Bool.Decides.{nat_tests}
 use Rattle.sets.specs.Sets.{has}
 use Rattle.sets.proofs.Bits.{has_past}
-use Rattle.dispenser.specs.Meaning.{Lawful, Stands, first, drawn}
+use Rattle.dispenser.specs.Meaning.{Lawful, Stands}
 use Rattle.dispenser.specs.Rolled.{choice_tags, full_lane, roll_opens, full_roll, rolled, OpenByForm}
 use Rattle.std.proofs.lemmas.Option.{none-some}
-use Rattle.dispenser.specs.Lanes.{same_meaning, slice_index-replicate, slice_get-drop, part_lawful, draw_empty, drop_none}
-use Rattle.dispenser.specs.Tests.{all, all_at}
+use Rattle.dispenser.specs.Lanes.{same_meaning, slice_index-replicate, slice_get-drop, part_lawful}
 
 -- ---- the open sets, by the form of a tag
 
-same_bool : Bool → Bool → Bool
-same_bool true b = b
-same_bool false true = false
-same_bool false false = true
-
-formed : ℕ → Bool
-formed t = same_bool (has t roll_opens.adding) (t % 4 == 1 || t % 4 == 2) && same_bool (has t roll_opens.taking) (t % 4 == 3)
-
-all_formed : all formed 64 ≡ true
-unfolding formed same_bool has
-all_formed = refl
-
-same_from : (a b : Bool) → same_bool a b ≡ true → a ≡ b
-unfolding same_bool
-same_from true b h = sym h
-same_from false true h = h
-same_from false false h = refl
-
 pub open_by_form : OpenByForm
-unfolding formed
-open_by_form t h =
-    let p = and_parts _ _ (all_at formed 64 t all_formed h) in
-    (same_from _ _ p.0, same_from _ _ p.1)
+unfolding has
+open_by_form t h = (
+  agree_below_at (λ n. has n roll_opens.adding) (λ n. n % 4 == 1 || n % 4 == 2) 64 t refl h,
+  agree_below_at (λ n. has n roll_opens.taking) (λ n. n % 4 == 3) 64 t refl h,
+)
 
 -- ---- the laws
 
@@ -100,8 +82,3 @@ rolled_lawful used = part_lawful full_roll (λ k. drop (slice_index used k) (ful
 
 pub rolled_none : rolled (replicate 48 0) ≡ full_roll
 rolled_none = same_meaning (rolled (replicate 48 0)) full_roll (λ k. ap (λ n. drop n (full_lane k)) (slice_index-replicate 48 k)) refl
-
--- ---- draws, by what the roll gives for the lane's task and choice
-
-pub draw_none : (used : List ℕ) (k : ℕ) → k < 48 → None ≡ slice_get (choice_tags (k / 3) (k % 3)) (slice_index used k) → record { answer : None ≡ first ((rolled used).lane k); left : rolled used ≡ drawn (rolled used) k }
-draw_none used k l h = draw_empty (rolled used) k (ap (drop (slice_index used k)) (lane_is k l) ∙ drop_none (slice_index used k) _ (sym h))

@@ -1,5 +1,6 @@
 -- The shuffle: tag n below becomes (5 * n + 17) mod 64. Assumes nothing.
-use Rattle.std.specs.Prelude.{◌≡◌, ℕ, zero, suc, ◌+◌, ◌*◌, ◌%◌, ◌<◌, List, [], ◌∷◌, map, slice_index}
+use Rattle.std.specs.Prelude.{◌≡◌, ℕ, ◌+◌, ◌*◌, ◌%◌, ◌<◌, List, map, slice_index}
+use Rattle.std.specs.List.{range_with_len}
 use Rattle.sets.specs.Sets.{has, those}
 use Rattle.dispenser.specs.Meaning.{Meaning}
 
@@ -10,16 +11,12 @@ moved n = (5 * n + 17) % 64
 abbrev pub back : ℕ → ℕ
 back n = (13 * n + 35) % 64
 
--- a rule written out as a table of n entries, the first being that of i
-abbrev pub table_from : (ℕ → ℕ) → ℕ → ℕ → List ℕ
-table_from f zero i = []
-table_from f (suc n) i = f i ∷ table_from f n (suc i)
-
+-- both rules written out, from tag 0 on
 abbrev pub forward_table : List ℕ
-forward_table = table_from moved 64 0
+forward_table = map moved (range_with_len 0 64)
 
 abbrev pub backward_table : List ℕ
-backward_table = table_from back 64 0
+backward_table = map back (range_with_len 0 64)
 
 -- both tables hold tags only, and each undoes the other; so each holds every tag once
 abbrev pub Inverse : Type 0

@@ -1,17 +1,15 @@
 -- The shuffle's tables undo each other; the shuffle keeps the laws, and its draws. Assumes nothing.
-use Rattle.std.specs.Prelude.{◌≡◌, ℕ, ◌<◌, Bool, true, false, ◌&&◌, List, map, Some, None, Option, ◌==◌, nat_lt, slice_index, refl}
+use Rattle.std.specs.Prelude.{◌≡◌, ℕ, ◌<◌, Bool, true, false, ◌&&◌, Some, None, Option, ◌==◌, nat_lt, slice_index, refl}
 use Rattle.std.proofs.Common.{sym, ap, ◌∙◌, arith}
 use Rattle.std.specs.Option.{option_map}
 use Rattle.std.specs.List.{slice_get}
-use Rattle.std.proofs.lemmas.List.{drop-map}
-use Rattle.std.proofs.lemmas.Bool.{eqb-true, ltb-true, lt-ltb, ne_eqb, eq-eqb, and_parts}
+use Rattle.std.proofs.lemmas.List.FromFn.{get_or-map-range_with_len}
+use Rattle.std.proofs.lemmas.Bool.{agree_below_at, eqb-true, ltb-true, lt-ltb, and_parts}
 use Rattle.sets.specs.Sets.{has}
 use Rattle.sets.proofs.Bits.{has-those_below}
-use Rattle.dispenser.specs.Meaning.{Meaning, Lawful, Stands, first, drawn}
+use Rattle.dispenser.specs.Meaning.{Meaning, Lawful, Stands}
 use Rattle.dispenser.specs.Shuffled.{moved, back, forward_table, backward_table, moved_set, shuffled, Inverse}
 use Rattle.std.proofs.lemmas.Option.{none-some, slice_get-map}
-use Rattle.dispenser.specs.Lanes.{drawn_by}
-use Rattle.dispenser.specs.Tests.{all, all_at, table_at}
 
 -- ---- one test over both tables
 
@@ -20,23 +18,19 @@ round n =
     nat_lt (slice_index forward_table n) 64 && (nat_lt (slice_index backward_table n) 64 &&
     (slice_index backward_table (slice_index forward_table n) == n && slice_index forward_table (slice_index backward_table n) == n))
 
-every_round : all round 64 ≡ true
-unfolding round
-every_round = refl
-
 pub inverse : Inverse
 unfolding round
 inverse n h =
-    let p = and_parts _ _ (all_at round 64 n every_round h) in
+    let p = and_parts _ _ (agree_below_at round (λ k. true) 64 n refl h) in
     let q = and_parts _ _ p.1 in
     let r = and_parts _ _ q.1 in
     (ltb-true _ 64 p.0, ltb-true _ 64 q.0, eqb-true _ n r.0, eqb-true _ n r.1)
 
 pub forward_at : (n : ℕ) → n < 64 → slice_index forward_table n ≡ moved n
-forward_at = table_at moved 64
+forward_at n h = get_or-map-range_with_len moved 0 64 n n 0 h (omega arith)
 
 pub backward_at : (n : ℕ) → n < 64 → slice_index backward_table n ≡ back n
-backward_at = table_at back 64
+backward_at n h = get_or-map-range_with_len back 0 64 n n 0 h (omega arith)
 
 pub back_moved : (n : ℕ) → n < 64 → back (moved n) ≡ n
 back_moved n h =
@@ -84,15 +78,3 @@ module _ (m : Meaning) (laws : Lawful m) where
     where
       never : (p x y : Bool) → (x && y) ≡ false → ((p && x) && (p && y)) ≡ false
       never p x y h = grind arith
-
--- ---- draws
-
--- what a draw below answers, moved, is what a draw answers
-pub first_moved : (xs : List ℕ) (o : Option ℕ) → o ≡ first xs → option_map moved o ≡ first (map moved xs)
-first_moved xs o h = ap (option_map moved) h ∙ sym (slice_get-map moved xs 0)
-
-pub shuffled_drawn : (m : Meaning) (k : ℕ) → shuffled (drawn m k) ≡ drawn (shuffled m) k
-shuffled_drawn m k =
-    drawn_by (shuffled m) (shuffled (drawn m k)) k refl
-    (rw (eq-eqb k k refl) (sym (drop-map moved 1 (m.lane k))))
-    (λ j d. rw (ne_eqb j k d))

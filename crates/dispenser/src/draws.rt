@@ -14,10 +14,10 @@ pub struct Draw {
 
 // Draws on each lane of the list in turn and writes down each answer.
 pub fn draw_all<D: Dispenser>(dispenser: &mut D, draws: &mut [Draw])
-    ensures answers { draws.new ≡ answered (D.Dispenser.meaning dispenser.old) (lanes_of draws.old) }
-    ensures left { D.Dispenser.meaning dispenser.new ≡ after (D.Dispenser.meaning dispenser.old) (lanes_of draws.old) }
-    ensures fresh { NeverTwice (D.Dispenser.meaning dispenser.old) }
-    ensures own { OwnLanesOnly (D.Dispenser.meaning dispenser.old) }
+    ensures answers { draws.new ≡ answered (D.meaning dispenser.old) (lanes_of draws.old) }
+    ensures left { D.meaning dispenser.new ≡ after (D.meaning dispenser.old) (lanes_of draws.old) }
+    ensures fresh { NeverTwice (D.meaning dispenser.old) }
+    ensures own { OwnLanesOnly (D.meaning dispenser.old) }
 {
     for draw in draws.iter_mut() {
         *draw = ask(dispenser, draw.lane);
@@ -25,8 +25,8 @@ pub fn draw_all<D: Dispenser>(dispenser: &mut D, draws: &mut [Draw])
 }
 
 fn ask<D: Dispenser>(dispenser: &mut D, lane: u8) -> Draw
-    ensures answer { result ≡ record { lane = lane; tag = first ((D.Dispenser.meaning dispenser.old).lane lane) } }
-    ensures left { D.Dispenser.meaning dispenser.new ≡ drawn (D.Dispenser.meaning dispenser.old) lane }
+    ensures answer { result ≡ record { lane = lane; tag = first ((D.meaning dispenser.old).lane lane) } }
+    ensures left { D.meaning dispenser.new ≡ drawn (D.meaning dispenser.old) lane }
 {
     Draw {
         lane,

@@ -46,7 +46,7 @@ pub struct Quota<D> {
 impl<D: Dispenser> Quota<D> {
     // Each lane keeps its first tags: as many as `most` says, and 3 where it says more.
     pub fn new(below: D, most: u8) -> Quota<D>
-        ensures meaning { cut (D.Dispenser.meaning result.below) result.allowance.left ≡ quota (D.Dispenser.meaning below) most }
+        ensures meaning { cut (D.meaning result.below) result.allowance.left ≡ quota (D.meaning below) most }
         ensures below { result.below ≡ below }
     {
         Quota {
@@ -64,14 +64,14 @@ impl<D: Dispenser> Quota<D> {
 }
 
 impl<D: Dispenser> Dispenser for Quota<D> {
-    ghost meaning = { λ q. cut (D.Dispenser.meaning q.below) q.allowance.left };
+    ghost meaning = { λ q. cut (D.meaning q.below) q.allowance.left };
 
-    ghost lawful = { λ x. cut_lawful (D.Dispenser.meaning x.below) x.allowance.left (D.Dispenser.lawful x.below) };
+    ghost lawful = { λ x. cut_lawful (D.meaning x.below) x.allowance.left (D.lawful x.below) };
 
     fn draw(&mut self, lane: u8) -> Option<u8>
-        ensures answer { result ≡ first ((cut (D.Dispenser.meaning self.old.below) self.old.allowance.left).lane lane) }
-        ensures left { cut (D.Dispenser.meaning self.new.below) self.new.allowance.left ≡ drawn (cut (D.Dispenser.meaning self.old.below) self.old.allowance.left) lane }
-        ensures below { D.Dispenser.meaning self.new.below ≡ passed_on (D.Dispenser.meaning self.old.below) self.old.allowance.left lane }
+        ensures answer { result ≡ first ((cut (D.meaning self.old.below) self.old.allowance.left).lane lane) }
+        ensures left { cut (D.meaning self.new.below) self.new.allowance.left ≡ drawn (cut (D.meaning self.old.below) self.old.allowance.left) lane }
+        ensures below { D.meaning self.new.below ≡ passed_on (D.meaning self.old.below) self.old.allowance.left lane }
     {
         let place = Lane::new(lane)?;
         if self.allowance.of(place) == 0 {

@@ -28,14 +28,14 @@ impl<D: Dispenser> Shuffle<D> {
 }
 
 impl<D: Dispenser> Dispenser for Shuffle<D> {
-    ghost meaning = { λ s. shuffled (D.Dispenser.meaning s.below) };
+    ghost meaning = { λ s. shuffled (D.meaning s.below) };
 
-    ghost lawful = { λ x. shuffled_lawful (D.Dispenser.meaning x.below) (D.Dispenser.lawful x.below) };
+    ghost lawful = { λ x. shuffled_lawful (D.meaning x.below) (D.lawful x.below) };
 
     fn draw(&mut self, lane: u8) -> Option<u8>
-        ensures answer { result ≡ first ((shuffled (D.Dispenser.meaning self.old.below)).lane lane) }
-        ensures left { shuffled (D.Dispenser.meaning self.new.below) ≡ drawn (shuffled (D.Dispenser.meaning self.old.below)) lane }
-        ensures below { D.Dispenser.meaning self.new.below ≡ drawn (D.Dispenser.meaning self.old.below) lane }
+        ensures answer { result ≡ first ((shuffled (D.meaning self.old.below)).lane lane) }
+        ensures left { shuffled (D.meaning self.new.below) ≡ drawn (shuffled (D.meaning self.old.below)) lane }
+        ensures below { D.meaning self.new.below ≡ drawn (D.meaning self.old.below) lane }
     {
         let tag = self.below.draw(lane)?;
         Some(forward(tag))

@@ -1,5 +1,5 @@
 -- The blank sheet is sound, and a deal that is not refused keeps a sheet sound. Assumes nothing.
-use Rattle.std.proofs.Common.{◌≡◌, ℕ, ◌%◌, ◌<◌, ◌≤◌, Bool, true, false, cond, ◌&&◌, ◌||◌, eqb, ◌⊎◌, length, get_or, replicate, Some, None, Ok, sym, refl, ap, ◌∙◌, subst, inl, inr, arith, length-set}
+use Rattle.std.proofs.Common.{◌≡◌, ℕ, ◌%◌, ◌<◌, ◌≤◌, Bool, true, false, cond, ◌&&◌, ◌||◌, eqb, ◌⊎◌, length, get_or, replicate, Some, None, sym, refl, ap, ◌∙◌, subst, inl, inr, arith, length-set}
 use Rattle.std.proofs.lemmas.List.{get_or-set_same, get_or-set_other}
 use Rattle.std.proofs.lemmas.Bool.{cases_eq, cases_lt, cases_Bool, eq-eqb, ne_eqb, eqb-true, lt-ltb, le-ltb, or_left, or_right, false≢true}
 use Rattle.std.proofs.lemmas.Bool.Decides.{nat_tests}
@@ -7,7 +7,7 @@ use Rattle.std.proofs.lemmas.Option.{none-some}
 use Rattle.sets.specs.Sets.{has, union, only}
 use Rattle.sets.proofs.Bits.{has_zero, has-bit_or, has-only}
 use Rattle.dispenser.specs.Lanes.{slice_index-replicate}
-use Rattle.sheet.specs.Dealing.{blank, fault, answer, added, placed, Homed, Sound}
+use Rattle.sheet.specs.Dealing.{blank, fault, added, placed, Homed, Sound}
 use Rattle.sheet.specs.declared.dealt.Dealt.{Dealt}
 use Rattle.sheet.specs.declared.refusal.DealRefusal.{DealRefusal}
 use Rattle.sheet.specs.declared.refusal.DealRefusal.TheVariants.{NoSuchTag, NoSuchLane, DealtBefore}

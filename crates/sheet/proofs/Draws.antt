@@ -1,17 +1,19 @@
 -- A draw takes the lowest tag of a lane, and keeps a sheet sound. Assumes nothing.
-use Rattle.std.proofs.Common.{◌≡◌, ℕ, ◌^◌, ◌<◌, Bool, true, false, not, ◌&&◌, ◌⊎◌, ◌∷◌, length, get_or, drop, set, Some, None, sym, refl, ap, ◌∙◌, inl, inr, arith, length-set}
+use Rattle.std.proofs.Common.{◌≡◌, ℕ, ◌^◌, ◌<◌, Bool, true, false, not, ◌&&◌, eqb, ◌⊎◌, ◌∷◌, length, get_or, drop, set, Some, sym, refl, ap, ◌∙◌, inl, inr, arith, length-set}
 use lib.Count.{count_trailing_zeros}
+use mir.Syntax.{w64}
+use Rattle.std.specs.Int.{bit_at}
+use Rattle.std.proofs.lemmas.Nat.Bits.{bit_at-trailing_zeros}
 use Rattle.std.proofs.lemmas.List.{get_or-set_same, get_or-set_other}
 use Rattle.std.proofs.lemmas.Bool.{cases_eq, eq-eqb, ne_eqb, lt-ltb}
 use Rattle.sets.specs.Sets.{has, without, only}
 use Rattle.sets.proofs.Bits.{has-without, has-only}
 use Rattle.dispenser.specs.Meaning.{first, drawn}
-use Rattle.dispenser.specs.Lanes.{drawn_by, draw_empty}
+use Rattle.dispenser.specs.Lanes.{drawn_by}
 use Rattle.sheet.specs.Tags.{tags}
 use Rattle.sheet.specs.Dealing.{sheet, Sound}
 use Rattle.sheet.specs.declared.dealt.Dealt.{Dealt}
-use Rattle.sheet.specs.Lists.{tags_low, tags_empty}
-use Rattle.sheet.proofs.Zeros.{Lowest, lowest}
+use Rattle.sheet.specs.Lists.{tags_low}
 
 -- the sheet with another set in a lane
 abbrev pub with_lane : Dealt → ℕ → ℕ → Dealt
@@ -43,29 +45,28 @@ cleared_part s z t h = left (has t s) _ (sym (has-without t s (only z)) ∙ h)
     left : (x y : Bool) → (x && y) ≡ true → x ≡ true
     left x y h = grind arith
 
+-- the lowest tag of a set stands first in its list, and the rest of the list is that of the set without it
 tags_cleared : (s : ℕ) → s < 2 ^ 64 → (s ≡ 0 → ⊥) → tags s ≡ count_trailing_zeros 64 s ∷ tags (without s (only (count_trailing_zeros 64 s)))
-tags_cleared s h d = tags_low s (without s (only z)) z low.small low.there low.none_below gone kept
+unfolding has
+tags_cleared s h d = tags_low s (without s (only z)) z low.0 (ap (λ x. eqb x 1) low.1) (λ j l. ap (λ x. eqb x 1) (low.2 j l)) gone kept
   where
     z : ℕ
     z = count_trailing_zeros 64 s
 
-    low : Lowest 64 s (count_trailing_zeros 64 s)
-    low = lowest 64 s h d
+    low : (z < 64) × (bit_at s z ≡ 1) × ((j : ℕ) → j < z → bit_at s j ≡ 0)
+    low = bit_at-trailing_zeros w64 s (omega arith) h
 
-    drop_it : (x : Bool) → (x && not true) ≡ false
-    drop_it x = grind arith
+    gone : has z (without s (only z)) ≡ false
+    gone = has-without z s (only z) ∙ rw (has-only z z, eq-eqb z z refl, lt-ltb z 64 low.0) (drop_it (has z s))
+      where
+        drop_it : (x : Bool) → (x && not true) ≡ false
+        drop_it x = grind arith
 
-    keep_it : (x : Bool) → (x && not false) ≡ x
-    keep_it x = grind arith
-
-    gone : has (count_trailing_zeros 64 s) (without s (only (count_trailing_zeros 64 s))) ≡ false
-    gone = has-without _ s (only _) ∙ rw (has-only _ _, eq-eqb _ _ refl, lt-ltb _ 64 low.small) (drop_it _)
-
-    kept : (t : ℕ) → (t ≡ count_trailing_zeros 64 s → ⊥) → has t (without s (only (count_trailing_zeros 64 s))) ≡ has t s
-    kept t n = has-without t s (only _) ∙ rw (has-only t _, ne_eqb t _ n) (keep_it _)
-
-pub draw_none : (d : Dealt) (k : ℕ) → get_or d.lanes k 0 ≡ 0 → record { answer : None ≡ first ((sheet d).lane k); left : sheet d ≡ drawn (sheet d) k }
-draw_none d k e = draw_empty (sheet d) k (ap tags e ∙ tags_empty)
+    kept : (t : ℕ) → (t ≡ z → ⊥) → has t (without s (only z)) ≡ has t s
+    kept t n = has-without t s (only z) ∙ rw (has-only t z, ne_eqb t z n) (keep_it (has t s))
+      where
+        keep_it : (x : Bool) → (x && not false) ≡ x
+        keep_it x = grind arith
 
 pub draw_lowest : (d : Dealt) (k : ℕ) → k < length d.lanes → get_or d.lanes k 0 < 2 ^ 64 → (get_or d.lanes k 0 ≡ 0 → ⊥) →
     record {

@@ -1,4 +1,3 @@
-pub mod Zeros
 pub mod Deals
 pub mod Draws
 pub mod Homes
