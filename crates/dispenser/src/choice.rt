@@ -1,4 +1,4 @@
-// What everyone may do with the tags of a lane.
+// What everyone may do with the tags of a lane: nothing, take them away from a label, or add them to one.
 ghost use Rattle.std.specs.Prelude.{◌≡◌, Some};
 ghost use Rattle.dispenser.specs.Choices.{code, choice_text};
 

@@ -55,7 +55,7 @@ impl<D: Dispenser> Quota<D> {
         }
     }
 
-    // The dispenser below, as the draws have left it.
+    // The dispenser below, as the draws have left it. The shuffle has the same: one trait for both is no plainer.
     pub fn into_below(self) -> D
         ensures { result ≡ self.below }
     {
@@ -68,6 +68,7 @@ impl<D: Dispenser> Dispenser for Quota<D> {
 
     ghost lawful = { λ x. cut_lawful (D.meaning x.below) x.allowance.left (D.lawful x.below) };
 
+    // The first two clauses are the trait's: beside a clause of its own a method has to repeat them.
     fn draw(&mut self, lane: u8) -> Option<u8>
         ensures answer { result ≡ first ((cut (D.meaning self.old.below) self.old.allowance.left).lane lane) }
         ensures left { cut (D.meaning self.new.below) self.new.allowance.left ≡ drawn (cut (D.meaning self.old.below) self.old.allowance.left) lane }

@@ -19,7 +19,7 @@ impl<D: Dispenser> Shuffle<D> {
         Shuffle { below }
     }
 
-    // The dispenser below, as the draws have left it.
+    // The dispenser below, as the draws have left it. The quota has the same: one trait for both is no plainer.
     pub fn into_below(self) -> D
         ensures { result ≡ self.below }
     {
@@ -32,6 +32,7 @@ impl<D: Dispenser> Dispenser for Shuffle<D> {
 
     ghost lawful = { λ x. shuffled_lawful (D.meaning x.below) (D.lawful x.below) };
 
+    // The first two clauses are the trait's: beside a clause of its own a method has to repeat them.
     fn draw(&mut self, lane: u8) -> Option<u8>
         ensures answer { result ≡ first ((shuffled (D.meaning self.old.below)).lane lane) }
         ensures left { shuffled (D.meaning self.new.below) ≡ drawn (shuffled (D.meaning self.old.below)) lane }

@@ -14,6 +14,7 @@ const BACKWARD: [u8; 64] = [
     32, 45, 58, 7, 20, 33, 46, 59, 8, 21, 34, 47, 60, 9, 22,
 ];
 
+// Two functions: one over a table that is handed in is no plainer, since each table has a rule of its own to promise.
 #[tactic(auto, using(crate::specs::Shuffles::forward_at))]
 pub(crate) fn forward(tag: u8) -> u8
     requires { tag < 64 }

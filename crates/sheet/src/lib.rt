@@ -15,14 +15,14 @@ use dealt::Dealt;
 use dispenser::{Dispenser, Lane, OpenSets};
 pub use refusal::DealRefusal;
 
-// A finished sheet, which takes no more tags.
+// A sheet, which takes no more tags.
 #[derive(Drop)]
 pub struct Sheet {
     dealt: Dealt,
     ghost sound: { ∥ Sound dealt ∥₁ },
 }
 
-// A sheet that is being dealt. It is no dispenser yet.
+// A sheet that is being dealt, and whose promises hold from the start. It is no dispenser yet.
 #[derive(Drop)]
 pub struct Deal {
     sheet: Sheet,
@@ -82,6 +82,7 @@ impl Dispenser for Sheet {
     }
 }
 
+// At most 64, so that the cast loses nothing.
 fn lowest(set: u64) -> u8
     ensures { result ≡ count_trailing_zeros 64 set }
 {
