@@ -9,7 +9,7 @@ use Rattle.sets.specs.Sets.{has, without, within, only, those_below, Laws}
 
 -- ---- each operation at one tag
 
-pub has-bit_and : (t a b : ℕ) → has t (bit_and a b) ≡ (has t a && has t b)
+has-bit_and : (t a b : ℕ) → has t (bit_and a b) ≡ (has t a && has t b)
 unfolding has
 has-bit_and t a b = let e = bit_at_and a b t in let p = bit_at-lt a t in let q = bit_at-lt b t in grind (arith, nat_tests)
 
@@ -75,7 +75,7 @@ same a b f = same_from_bits a b (λ t. digit (bit_at a t) (bit_at b t) (bit_at-l
     digit : (x y : ℕ) → x < 2 → y < 2 → eqb x 1 ≡ eqb y 1 → x ≡ y
     digit x y p q e = grind (arith, nat_tests)
 
-pub part_has : (t a b : ℕ) → within a b ≡ true → has t a ≡ true → has t b ≡ true
+part_has : (t a b : ℕ) → within a b ≡ true → has t a ≡ true → has t b ≡ true
 unfolding within
 part_has t a b h p =
     let e : has t a ≡ (has t a && has t b) = ap (has t) (sym (eqb-true (bit_and a b) a h)) ∙ has-bit_and t a b in
