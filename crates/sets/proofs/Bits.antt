@@ -3,7 +3,8 @@ use Rattle.std.proofs.Common.{◌≡◌, ℕ, zero, suc, ◌^◌, ◌<◌, ◌�
 use Rattle.std.specs.Int.{bit_at}
 use lib.Bits.{bit_and, bit_or}
 use Rattle.std.proofs.lemmas.Nat.Bits.{bit_at_and, bit_at_or, bit_at_xor, bit_at_above, bit_at-pow_same, bit_at-pow_other, bit_at-lt, same_from_bits}
-use Rattle.std.proofs.lemmas.Bool.{eqb-true, eq-eqb, ne_eqb, le-ltb, and_left, cases_eq}
+use Rattle.std.proofs.Math.Bool.{and-true}
+use Rattle.std.proofs.lemmas.Bool.{eqb-true, eq-eqb, ne_eqb, le-ltb, and_left, and_right, cases_eq}
 use Rattle.std.proofs.lemmas.Bool.Decides.{nat_tests}
 use Rattle.sets.specs.Sets.{has, without, within, only, those_below, Laws}
 
@@ -47,12 +48,9 @@ pub has-only : (t u : ℕ) → has t (only u) ≡ (eqb t u && ltb u 64)
 unfolding only
 has-only t u = go (ltb u 64)
   where
-    join : (x b : Bool) → cond b x false ≡ (x && b)
-    join x b = grind arith
-
     go : (b : Bool) → has t (cond b (2 ^ u) 0) ≡ (eqb t u && b)
-    go true = has_power t u ∙ join (eqb t u) true
-    go false = has_zero t ∙ join (eqb t u) false
+    go true = has_power t u ∙ sym (and-true (eqb t u))
+    go false = has_zero t ∙ sym (and_right (eqb t u) false refl)
 
 pub has-those_below : (t : ℕ) (f : ℕ → Bool) (n : ℕ) → has t (those_below f n) ≡ (ltb t n && f t)
 unfolding those_below

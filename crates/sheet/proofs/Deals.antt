@@ -1,7 +1,8 @@
 -- The blank sheet is sound, and a deal that is not refused keeps a sheet sound. Assumes nothing.
-use Rattle.std.proofs.Common.{◌≡◌, ℕ, ◌%◌, ◌<◌, ◌≤◌, Bool, true, false, cond, ◌&&◌, ◌||◌, eqb, ◌⊎◌, length, get_or, replicate, Some, None, sym, refl, ap, ◌∙◌, subst, inl, inr, arith, length-set}
+use Rattle.std.proofs.Common.{◌≡◌, ℕ, ◌%◌, ◌<◌, ◌≤◌, Bool, true, false, cond, ◌&&◌, eqb, ◌⊎◌, length, get_or, replicate, Some, None, sym, refl, ap, ◌∙◌, subst, inl, inr, arith, length-set}
 use Rattle.std.proofs.lemmas.List.{get_or-set_same, get_or-set_other}
-use Rattle.std.proofs.lemmas.Bool.{cases_eq, cases_lt, cases_Bool, eq-eqb, ne_eqb, eqb-true, lt-ltb, le-ltb, or_left, or_right, false≢true}
+use Rattle.std.proofs.Math.Bool.{or-false}
+use Rattle.std.proofs.lemmas.Bool.{false_from_ne_true, cases_eq, cases_lt, cases_Bool, eq-eqb, ne_eqb, eqb-true, lt-ltb, le-ltb, or_left, or_right, false≢true}
 use Rattle.std.proofs.lemmas.Bool.Decides.{nat_tests}
 use Rattle.std.proofs.lemmas.Option.{none-some}
 use Rattle.sets.specs.Sets.{has, union, only}
@@ -67,8 +68,7 @@ same_homed l m a b c p q r f x y z h = record {
 -- a tag that is not dealt is in no lane and no open set
 module _ (d : Dealt) (t : ℕ) (sound : Sound d) (new : has t d.all ≡ false) where
   absent : (x : Bool) → (x ≡ true → has t d.all ≡ true) → x ≡ false
-  absent true f = sym (f refl) ∙ new
-  absent false f = refl
+  absent x f = false_from_ne_true x (λ e. false≢true (sym new ∙ f e))
 
   pub lane_old : (k : ℕ) → has t (get_or d.lanes k 0) ≡ false
   lane_old k = absent _ ((sound.homed t).lane_dealt k)
@@ -85,10 +85,7 @@ module _ (d : Dealt) (tag lane : ℕ) (sound : Sound d) (fine : Fine d tag lane)
   with_tag s = has-bit_or tag s (only tag) ∙ rw (has-only tag tag, eq-eqb tag tag refl, lt-ltb tag 64 fine.0) (or_right (has tag s) true refl)
 
   pub other_tag : (s t : ℕ) → (t ≡ tag → ⊥) → has t (union s (only tag)) ≡ has t s
-  other_tag s t n = has-bit_or t s (only tag) ∙ rw (has-only t tag, ne_eqb t tag n) (neither (has t s))
-    where
-      neither : (x : Bool) → (x || false) ≡ x
-      neither x = grind arith
+  other_tag s t n = has-bit_or t s (only tag) ∙ rw (has-only t tag, ne_eqb t tag n) (or-false (has t s))
 
   pub added_tag : (c s : ℕ) → has tag s ≡ false → has tag (added c s tag lane) ≡ eqb (lane % 3) c
   added_tag c s h = go (eqb (lane % 3) c)

@@ -1,11 +1,12 @@
 -- A draw takes the lowest tag of a lane, and keeps a sheet sound. Assumes nothing.
-use Rattle.std.proofs.Common.{◌≡◌, ℕ, ◌^◌, ◌<◌, Bool, true, false, not, ◌&&◌, eqb, ◌⊎◌, ◌∷◌, length, get_or, drop, set, Some, sym, refl, ap, ◌∙◌, inl, inr, arith, length-set}
+use Rattle.std.proofs.Common.{◌≡◌, ℕ, ◌^◌, ◌<◌, true, false, eqb, ◌⊎◌, ◌∷◌, length, get_or, drop, set, Some, sym, refl, ap, ◌∙◌, inl, inr, arith, length-set}
 use lib.Count.{count_trailing_zeros}
 use mir.Syntax.{w64}
 use Rattle.std.specs.Int.{bit_at}
 use Rattle.std.proofs.lemmas.Nat.Bits.{bit_at-trailing_zeros}
 use Rattle.std.proofs.lemmas.List.{get_or-set_same, get_or-set_other}
-use Rattle.std.proofs.lemmas.Bool.{cases_eq, eq-eqb, ne_eqb, lt-ltb}
+use Rattle.std.proofs.Math.Bool.{and-true}
+use Rattle.std.proofs.lemmas.Bool.{and_parts, and_right, cases_eq, eq-eqb, ne_eqb, lt-ltb}
 use Rattle.sets.specs.Sets.{has, without, only}
 use Rattle.sets.proofs.Bits.{has-without, has-only}
 use Rattle.dispenser.specs.Meaning.{first, drawn}
@@ -40,10 +41,7 @@ less_sound d k s l part sound = record {
 
 -- a set without its lowest tag
 pub cleared_part : (s z t : ℕ) → has t (without s (only z)) ≡ true → has t s ≡ true
-cleared_part s z t h = left (has t s) _ (sym (has-without t s (only z)) ∙ h)
-  where
-    left : (x y : Bool) → (x && y) ≡ true → x ≡ true
-    left x y h = grind arith
+cleared_part s z t h = (and_parts (has t s) _ (sym (has-without t s (only z)) ∙ h)).0
 
 -- the lowest tag of a set stands first in its list, and the rest of the list is that of the set without it
 tags_cleared : (s : ℕ) → s < 2 ^ 64 → (s ≡ 0 → ⊥) → tags s ≡ count_trailing_zeros 64 s ∷ tags (without s (only (count_trailing_zeros 64 s)))
@@ -57,16 +55,10 @@ tags_cleared s h d = tags_low s (without s (only z)) z low.0 (ap (λ x. eqb x 1)
     low = bit_at-trailing_zeros w64 s (omega arith) h
 
     gone : has z (without s (only z)) ≡ false
-    gone = has-without z s (only z) ∙ rw (has-only z z, eq-eqb z z refl, lt-ltb z 64 low.0) (drop_it (has z s))
-      where
-        drop_it : (x : Bool) → (x && not true) ≡ false
-        drop_it x = grind arith
+    gone = has-without z s (only z) ∙ rw (has-only z z, eq-eqb z z refl, lt-ltb z 64 low.0) (and_right (has z s) false refl)
 
     kept : (t : ℕ) → (t ≡ z → ⊥) → has t (without s (only z)) ≡ has t s
-    kept t n = has-without t s (only z) ∙ rw (has-only t z, ne_eqb t z n) (keep_it (has t s))
-      where
-        keep_it : (x : Bool) → (x && not false) ≡ x
-        keep_it x = grind arith
+    kept t n = has-without t s (only z) ∙ rw (has-only t z, ne_eqb t z n) (and-true (has t s))
 
 pub draw_lowest : (d : Dealt) (k : ℕ) → k < length d.lanes → get_or d.lanes k 0 < 2 ^ 64 → (get_or d.lanes k 0 ≡ 0 → ⊥) →
     record {
