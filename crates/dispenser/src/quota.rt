@@ -55,7 +55,7 @@ impl<D: Dispenser> Quota<D> {
         }
     }
 
-    // The dispenser below, as the draws have left it. The shuffle has the same: one trait for both is no plainer.
+    // The dispenser below, as the draws have left it. A trait for this and the shuffle's is no plainer: each impl has the line.
     pub fn into_below(self) -> D
         ensures { result ≡ self.below }
     {

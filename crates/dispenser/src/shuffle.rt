@@ -19,7 +19,7 @@ impl<D: Dispenser> Shuffle<D> {
         Shuffle { below }
     }
 
-    // The dispenser below, as the draws have left it. The quota has the same: one trait for both is no plainer.
+    // The dispenser below, as the draws have left it. A trait for this and the quota's is no plainer: each impl has the line.
     pub fn into_below(self) -> D
         ensures { result ≡ self.below }
     {
