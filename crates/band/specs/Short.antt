@@ -1,4 +1,4 @@
--- No letter of a band is longer than 16 bytes: a law that the band's type owes, so its proof stands here. Assumes nothing.
+-- No letter of a band is longer than 16 bytes: a law that its memory owes, so its proof stands here. Assumes nothing.
 use Rattle.std.specs.Prelude.{ℕ, ◌≤◌, min, List, length, drop, slice_index}
 use Rattle.std.proofs.Common.{arith, length-take}
 use Rattle.band.specs.Banded.{cell, banded}

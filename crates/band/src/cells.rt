@@ -1,50 +1,45 @@
 // A letter in 49 bytes: the body's length, sixteen bytes of body, then the four sets, each with its high byte first.
-ghost use Rattle.std.specs.Prelude.{◌≡◌, ◌≤◌, [], ◌∷◌, length, take, drop};
+ghost use Rattle.std.specs.Prelude.{◌≡◌, ◌≤◌, take, drop};
 ghost use Rattle.sets.specs.Bytes.{value};
-ghost use Rattle.post.specs.Queues.{written};
+ghost use Rattle.post.specs.Records.{letter_in};
 ghost use Rattle.band.specs.Banded.{packed, unpacked};
 
-use post::{LetterSets, Taken};
+use post::{Letter, LetterSets, Record};
 
-pub(crate) fn pack(carried: LetterSets, text: &[u8]) -> [u8; 49]
-    requires { length text.now ≤ 16 }
-    ensures bytes { result ≡ packed (record { sets = carried; body = text.now }) }
-    ensures back { unpacked (packed (record { sets = carried; body = text.now })) ≡ record { sets = carried; body = text.now } }
+pub(crate) fn pack(written: &Record) -> [u8; 49]
+    ensures bytes { result ≡ packed (letter_in written.now) }
+    ensures back { unpacked (packed (letter_in written.now)) ≡ letter_in written.now }
 {
-    let len = text.len();
-    let mut cell = [0u8; 49];
-    cell[0] = len as u8;
-    cell[17..25].copy_from_slice(&sets::to_bytes(carried.plus));
-    cell[25..33].copy_from_slice(&sets::to_bytes(carried.minus));
-    cell[33..41].copy_from_slice(&sets::to_bytes(carried.secrecy));
-    cell[41..49].copy_from_slice(&sets::to_bytes(carried.integrity));
-    cell[1..1 + len].copy_from_slice(text);
+    let sets = written.sets();
+    let body = written.body();
+    let mut cell = [0; 49];
+    // A cast is plainer here than `try_from`, whose error could not come: it is proved to lose nothing.
+    cell[0] = body.len() as u8;
+    cell[17..25].copy_from_slice(&sets::to_bytes(sets.plus));
+    cell[25..33].copy_from_slice(&sets::to_bytes(sets.minus));
+    cell[33..41].copy_from_slice(&sets::to_bytes(sets.secrecy));
+    cell[41..49].copy_from_slice(&sets::to_bytes(sets.integrity));
+    cell[1..1 + body.len()].copy_from_slice(body);
     cell
 }
 
-// The body goes to the front of the buffer.
-pub(crate) fn unpack(cell: &[u8; 49], buffer: &mut [u8]) -> Taken
-    requires { 16 ≤ length buffer.old }
-    ensures answer { result ≡ record { sets = (unpacked cell.now).sets; len = length (unpacked cell.now).body } }
-    ensures body { buffer.new ≡ written (unpacked cell.now ∷ []) buffer.old }
+pub(crate) fn unpack(cell: &[u8; 49]) -> Record
+    ensures { letter_in result ≡ unpacked cell.now }
 {
-    let len = cell[0].min(16);
-    let n = len as usize;
-    buffer[0..n].copy_from_slice(&cell[1..1 + n]);
+    let len = usize::from(cell[0].min(16));
     let sets = LetterSets {
         plus: set_at(cell, 17),
         minus: set_at(cell, 25),
         secrecy: set_at(cell, 33),
         integrity: set_at(cell, 41),
     };
-    Taken { sets, len }
+    let body = &cell[1..1 + len];
+    Record::new(Letter { sets, body }).unwrap()
 }
 
 fn set_at(cell: &[u8; 49], at: usize) -> u64
     requires { at ≤ 41 }
     ensures { result ≡ value (take 8 (drop at cell.now)) }
 {
-    let mut bytes = [0; 8];
-    bytes.copy_from_slice(&cell[at..at + 8]);
-    sets::from_bytes(bytes)
+    sets::from_bytes(cell[at..at + 8].try_into().unwrap())
 }

@@ -1,3 +1,4 @@
+pub mod Elements
 pub mod Rings
 pub mod Pairs
 pub mod Turns

@@ -1,16 +1,11 @@
 -- A ring of four places: how many are in use, the first and the others, one more, and that the next is not in use. Assumes nothing.
-use Rattle.std.proofs.Common.{◌≡◌, ℕ, zero, suc, ◌+◌, ◌-◌, ◌*◌, ◌%◌, ◌<◌, [], ◌∷◌, ◌++◌, length, drop, Some, sym, refl, ap, ◌∙◌, arith}
+use Rattle.std.proofs.Common.{◌≡◌, ℕ, zero, suc, ◌+◌, ◌-◌, ◌*◌, ◌%◌, ◌<◌, [], ◌∷◌, ◌++◌, drop, Some, sym, refl, ap, ◌∙◌, arith}
 use Rattle.std.specs.List.{slice_get, AllByRecursion}
 use Rattle.post.specs.Places.{ring}
 
 pub no_places : (p f : ℕ) → ring p f 0 ≡ []
 unfolding ring
 no_places p f = refl
-
-pub length-ring : (p f n : ℕ) → length (ring p f n) ≡ n
-unfolding ring
-length-ring p f zero = refl
-length-ring p f (suc n) = ap suc (length-ring p (suc f) n)
 
 -- only the turn's remainder counts
 turns : (p f g n : ℕ) → f % 4 ≡ g % 4 → ring p f n ≡ ring p g n

@@ -1,4 +1,6 @@
 pub mod Queues
 pub mod Runs
 pub mod Memory
+pub mod Records
 pub mod Places
+pub mod Laws

@@ -1,7 +1,9 @@
 -- Where the letters lie: each pair has four places of 1,024, and uses them in turn. Assumes nothing.
-use Rattle.std.specs.Prelude.{ℕ, zero, suc, ◌+◌, ◌*◌, ◌%◌, ◌<◌, Bool, cond, ◌&&◌, List, [], ◌∷◌, ◌++◌, map, length, drop, Some, None, Option, nat_lt, slice_index}
+use Rattle.std.specs.Prelude.{ℕ, zero, suc, ◌+◌, ◌*◌, ◌%◌, Bool, cond, ◌&&◌, List, [], ◌∷◌, ◌++◌, map, length, drop, Some, None, Option, nat_lt}
+use Rattle.std.specs.List.{slice_get}
 use Rattle.post.specs.Queues.{Letter, Queues, valid, requeued}
 use Rattle.post.specs.declared.lines.Lines.{Lines}
+use Rattle.post.specs.declared.lines.line.Line.{Line}
 
 -- the number of a pair
 abbrev pub pair : ℕ → ℕ → ℕ
@@ -12,21 +14,26 @@ unfoldable pub ring : ℕ → ℕ → ℕ → List ℕ
 ring p f zero = []
 ring p f (suc n) = (p * 4 + f % 4) ∷ ring p (suc f) n
 
--- the places of the letters that wait, by receiver and then by sender, that of the oldest first
-abbrev pub places : Lines → ℕ → ℕ → List ℕ
-places l r s = cond (valid r s) (ring (pair r s) (slice_index l.first (pair r s)) (slice_index l.count (pair r s))) []
+-- the places of the letters in the line of the pair p, that of the oldest first
+abbrev pub places_in : ℕ → Option Line → List ℕ
+places_in p None = []
+places_in p (Some x) = ring p x.first x.count
 
--- a place that is answered is one of 1,024
-abbrev pub Inside : Option ℕ → Type 0
-Inside None = Unit {0}
-Inside (Some k) = k < 1024
+-- the turn after the newest letter's
+abbrev pub turn_after : Option Line → ℕ
+turn_after None = 0
+turn_after (Some x) = x.first + x.count
+
+-- the places of the letters that wait, by receiver and then by sender
+abbrev pub places : Lines → ℕ → ℕ → List ℕ
+places l r s = cond (valid r s) (places_in (pair r s) (slice_get l.lines (pair r s))) []
 
 -- whether the pair has a place for one letter more, and which it is
 abbrev pub vacant : Lines → ℕ → ℕ → Bool
 vacant l r s = valid r s && nat_lt (length (places l r s)) 4
 
 abbrev pub next : Lines → ℕ → ℕ → ℕ
-next l r s = pair r s * 4 + (slice_index l.first (pair r s) + slice_index l.count (pair r s)) % 4
+next l r s = pair r s * 4 + turn_after (slice_get l.lines (pair r s)) % 4
 
 -- with that place in use
 abbrev pub added : Lines → ℕ → ℕ → ℕ → ℕ → List ℕ

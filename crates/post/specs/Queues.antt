@@ -1,8 +1,9 @@
 -- What a post holds, what put and take do to it, and the laws of every post. Assumes nothing.
-use Rattle.std.specs.Prelude.{◌≡◌, ℕ, ◌≤◌, Bool, false, cond, ◌&&◌, List, [], ◌∷◌, ◌++◌, length, drop, Some, None, Option, ◌==◌, nat_le, nat_lt}
+use Rattle.std.specs.Prelude.{◌≡◌, ℕ, ◌≤◌, Bool, false, cond, ◌&&◌, List, [], ◌∷◌, ◌++◌, length, drop, Some, None, Ok, Err, Option, Result, ◌==◌, nat_le, nat_lt}
 use Rattle.std.specs.List.{AllByRecursion}
-use Rattle.post.specs.declared.LetterSets.{LetterSets}
-use Rattle.post.specs.declared.Taken.{Taken}
+use Rattle.post.specs.declared.letter.Full.{Full}
+use Rattle.post.specs.declared.letter.LetterSets.{LetterSets}
+use Rattle.post.specs.declared.letter.Taken.{Taken}
 
 pub record Letter : Type 0 where
   pub sets : LetterSets
@@ -27,6 +28,10 @@ requeued q r s x = upd q r (upd (q r) s x)
 -- whether a letter with this body is kept
 abbrev pub room : Queues → ℕ → ℕ → List ℕ → Bool
 room q r s body = nat_le (length body) 16 && (valid r s && nat_lt (length (q r s)) 4)
+
+-- what a put answers
+abbrev pub kept_or_full : Bool → Result (Unit {0}) Full
+kept_or_full there_is_room = cond there_is_room (Ok tt) (Err (record {}))
 
 -- what putting a letter leaves
 abbrev pub posted : Queues → ℕ → ℕ → Letter → Queues

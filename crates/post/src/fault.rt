@@ -7,12 +7,12 @@ pub enum PostFault {
     TooLittleMemory,
 }
 
-impl PostFault {
-    // The number under which the refusal is listed.
-    pub fn number(self) -> u8
-        ensures { result ≡ number self }
-    {
-        match self {
+// The number under which the refusal is listed.
+impl From<PostFault> for u8 {
+    ghost from_gives = { λ fault code. code ≡ number fault };
+
+    fn from(fault: PostFault) -> u8 {
+        match fault {
             PostFault::TooLittleMemory => 1,
         }
     }

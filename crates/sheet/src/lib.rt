@@ -40,7 +40,8 @@ impl Deal {
         Deal { sheet }
     }
 
-    // Gives the tag to the lane, if there are such a tag and lane and the tag has none yet.
+    // Gives the tag to the lane, if there are such a tag and lane and the tag has none yet. A struct of the two numbers is no
+    // plainer: it would be made for this call alone, and taken apart by the tests that come first.
     pub fn deal(&mut self, tag: u8, lane: u8) -> Result<(), DealRefusal>
         ensures answer { result ≡ answer (fault self.old.sheet.dealt tag lane) }
         ensures left { self.new.sheet.dealt ≡ left self.old.sheet.dealt tag lane (fault self.old.sheet.dealt tag lane) }
@@ -82,7 +83,7 @@ impl Dispenser for Sheet {
     }
 }
 
-// At most 64, so that the cast loses nothing.
+// At most 64, so that the cast loses nothing; `try_from` is no plainer, since its error could not come.
 fn lowest(set: u64) -> u8
     ensures { result ≡ count_trailing_zeros 64 set }
 {

@@ -1,12 +1,12 @@
-use Rattle.std.proofs.Common.{sym, ◌∙◌}
-use Rattle.post.proofs.Posts.{counted}
-use Rattle.post.proofs.Turns.{found, waiting}
+use Rattle.std.proofs.Common.{get_or, sym, rules}
+use Rattle.post.proofs.Turns.{reads, waiting}
 use Rattle.post.proofs.lines.Lines.count.Goals as goal
 
 pub returns-in-Some : goal.returns-in-Some
 returns-in-Some c =
     let l = c.args.self.now in
-    let r = c.args.receiver in
-    let s = c.args.sender in
-    let k = c.in-Some.pair in
-    λ at. c.line.ensures.count ∙ sym (waiting l r s k (found r s k c.in-Some.ensures)) ∙ counted at l r s
+    let r = c.args.pair.receiver in
+    let s = c.args.pair.sender in
+    let k = c.in-Some.number in
+    let d = c.index-self-number.result in
+    sym (waiting l r s k (get_or l.lines k d) (reads l r s k d c.in-Some.ensures (search rules)))

@@ -1,0 +1,63 @@
+// Letters into records and out again.
+ghost use Rattle.std.specs.Prelude.{◌≡◌, ◌≤◌, [], ◌∷◌, length};
+ghost use Rattle.std.specs.Option.{option_map};
+ghost use Rattle.post.specs.Queues.{written};
+ghost use Rattle.post.specs.Records.{letter_in, blank, fitted};
+
+use crate::{Letter, LetterSets, Record, Taken};
+
+impl Record {
+    // A record to make memory of.
+    pub fn blank() -> Record
+        ensures { letter_in result ≡ blank }
+    {
+        Record {
+            sets: LetterSets::default(),
+            len: 0,
+            body: [0; 16],
+        }
+    }
+
+    // None for a body over 16 bytes.
+    pub fn new(letter: Letter<'_>) -> Option<Record>
+        ensures { option_map letter_in result ≡ fitted (record { sets = letter.entry.sets; body = letter.entry.body.now }) }
+    {
+        let len = u8::try_from(letter.body.len()).ok()?;
+        if len > 16 {
+            return None;
+        }
+        let mut body = [0; 16];
+        body[..usize::from(len)].copy_from_slice(letter.body);
+        Some(Record {
+            sets: letter.sets,
+            len,
+            body,
+        })
+    }
+
+    pub fn sets(&self) -> LetterSets
+        ensures { result ≡ (letter_in self.now).sets }
+    {
+        self.sets
+    }
+
+    pub fn body(&self) -> &[u8]
+        ensures { result.now ≡ (letter_in self.now).body }
+    {
+        &self.body[..usize::from(self.len)]
+    }
+
+    // The body goes to the front of the buffer.
+    pub(crate) fn read(&self, buffer: &mut [u8]) -> Taken
+        requires { 16 ≤ length buffer.old }
+        ensures answer { result ≡ record { sets = (letter_in self.now).sets; len = length (letter_in self.now).body } }
+        ensures body { buffer.new ≡ written (letter_in self.now ∷ []) buffer.old }
+    {
+        let body = self.body();
+        buffer[..body.len()].copy_from_slice(body);
+        Taken {
+            sets: self.sets,
+            len: self.len,
+        }
+    }
+}
