@@ -1,5 +1,5 @@
 -- The quota: each lane is cut to its first tags. Assumes nothing.
-use Rattle.std.specs.Prelude.{ℕ, min, cond, List, take, nat_lt, slice_index}
+use Rattle.std.specs.Prelude.{ℕ, min, if◌then◌else◌, List, take, nat_lt, slice_index}
 use Rattle.dispenser.specs.Meaning.{Meaning, drawn}
 
 -- a dispenser as it is with a new quota of q, where more than 3 counts as 3
@@ -12,4 +12,4 @@ cut m left = record { lane = λ k. take (slice_index left k) (m.lane k); opens =
 
 -- what a draw on lane k leaves below: nothing is asked there once the lane's allowance is spent
 abbrev pub passed_on : Meaning → List ℕ → ℕ → Meaning
-passed_on m left k = cond (nat_lt 0 (slice_index left k)) (drawn m k) m
+passed_on m left k = if nat_lt 0 (slice_index left k) then drawn m k else m

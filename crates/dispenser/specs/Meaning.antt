@@ -1,5 +1,5 @@
 -- What a tag dispenser holds, what a draw does to it, and the laws of every dispenser. Assumes nothing.
-use Rattle.std.specs.Prelude.{◌≡◌, ℕ, ◌%◌, ◌<◌, false, cond, ◌&&◌, List, drop, Some, Option, ◌==◌}
+use Rattle.std.specs.Prelude.{◌≡◌, ℕ, ◌%◌, ◌<◌, false, if◌then◌else◌, ◌&&◌, List, drop, Some, Option, ◌==◌}
 use Rattle.std.specs.List.{slice_get}
 use Rattle.sets.specs.Sets.{has}
 use Rattle.dispenser.specs.declared.OpenSets.{OpenSets}
@@ -15,7 +15,7 @@ first tags = slice_get tags 0
 
 -- what a draw on lane k leaves: that lane without its first tag, and all else as it was
 abbrev pub drawn : Meaning → ℕ → Meaning
-drawn m k = record { lane = λ j. cond (j == k) (drop 1 (m.lane j)) (m.lane j); opens = m.opens }
+drawn m k = record { lane = λ j. if j == k then drop 1 (m.lane j) else m.lane j; opens = m.opens }
 
 -- tag t stands at place a of lane k
 abbrev pub Stands : Meaning → ℕ → ℕ → ℕ → Type 0

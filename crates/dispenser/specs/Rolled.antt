@@ -1,5 +1,5 @@
 -- The roll: four tags for each task i, from 4i to 4i + 3. Assumes nothing.
-use Rattle.std.specs.Prelude.{◌≡◌, ℕ, zero, suc, ◌+◌, ◌*◌, ◌/◌, ◌%◌, ◌<◌, cond, ◌||◌, List, [], ◌∷◌, drop, ◌==◌, nat_lt, slice_index}
+use Rattle.std.specs.Prelude.{◌≡◌, ℕ, zero, suc, ◌+◌, ◌*◌, ◌/◌, ◌%◌, ◌<◌, if◌then◌else◌, ◌||◌, List, [], ◌∷◌, drop, ◌==◌, nat_lt, slice_index}
 use Rattle.sets.specs.Sets.{has}
 use Rattle.dispenser.specs.Meaning.{Meaning}
 use Rattle.dispenser.specs.declared.OpenSets.{OpenSets}
@@ -12,7 +12,7 @@ choice_tags i (suc (suc zero)) = (4 * i + 1) ∷ (4 * i + 2) ∷ []
 choice_tags i (suc (suc (suc c))) = []
 
 abbrev pub full_lane : ℕ → List ℕ
-full_lane k = cond (nat_lt k 48) (choice_tags (k / 3) (k % 3)) []
+full_lane k = if nat_lt k 48 then choice_tags (k / 3) (k % 3) else []
 
 abbrev pub roll_opens : OpenSets
 roll_opens = record { adding = 0x6666_6666_6666_6666; taking = 0x8888_8888_8888_8888 }

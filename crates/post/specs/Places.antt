@@ -1,5 +1,5 @@
 -- Where the letters lie: each pair has four places of 1,024, and uses them in turn. Assumes nothing.
-use Rattle.std.specs.Prelude.{ℕ, zero, suc, ◌+◌, ◌*◌, ◌%◌, Bool, cond, ◌&&◌, List, [], ◌∷◌, ◌++◌, map, length, drop, Some, None, Option, nat_lt}
+use Rattle.std.specs.Prelude.{ℕ, zero, suc, ◌+◌, ◌*◌, ◌%◌, Bool, if◌then◌else◌, ◌&&◌, List, [], ◌∷◌, ◌++◌, map, length, drop, Some, None, Option, nat_lt}
 use Rattle.std.specs.List.{slice_get}
 use Rattle.post.specs.Queues.{Letter, Queues, valid, requeued}
 use Rattle.post.specs.declared.lines.Lines.{Lines}
@@ -26,7 +26,7 @@ turn_after (Some x) = x.first + x.count
 
 -- the places of the letters that wait, by receiver and then by sender
 abbrev pub places : Lines → ℕ → ℕ → List ℕ
-places l r s = cond (valid r s) (places_in (pair r s) (slice_get l.lines (pair r s))) []
+places l r s = if valid r s then places_in (pair r s) (slice_get l.lines (pair r s)) else []
 
 -- whether the pair has a place for one letter more, and which it is
 abbrev pub vacant : Lines → ℕ → ℕ → Bool
@@ -37,7 +37,7 @@ next l r s = pair r s * 4 + turn_after (slice_get l.lines (pair r s)) % 4
 
 -- with that place in use
 abbrev pub added : Lines → ℕ → ℕ → ℕ → ℕ → List ℕ
-added l r s = cond (vacant l r s) (requeued (places l) r s (places l r s ++ (next l r s ∷ []))) (places l)
+added l r s = if vacant l r s then requeued (places l) r s (places l r s ++ (next l r s ∷ [])) else places l
 
 -- with the oldest letter's place free
 abbrev pub freed : Lines → ℕ → ℕ → ℕ → ℕ → List ℕ

@@ -1,5 +1,5 @@
 -- The letter that lies in a record. Assumes nothing.
-use Rattle.std.specs.Prelude.{[], cond, length, take, Some, None, Option, nat_le}
+use Rattle.std.specs.Prelude.{[], if◌then◌else◌, length, take, Some, None, Option, nat_le}
 use Rattle.post.specs.Queues.{Letter}
 use Rattle.post.specs.declared.record.Record.{Record}
 
@@ -12,4 +12,4 @@ blank = record { sets = record { plus = 0; minus = 0; secrecy = 0; integrity = 0
 
 -- a letter, if a record can hold it
 abbrev pub fitted : Letter → Option Letter
-fitted l = cond (nat_le (length l.body) 16) (Some l) None
+fitted l = if nat_le (length l.body) 16 then Some l else None

@@ -1,5 +1,5 @@
 -- Runs of puts and takes, and what holds over every run. Assumes nothing.
-use Rattle.std.specs.Prelude.{◌≡◌, ℕ, Bool, cond, ◌&&◌, List, [], ◌∷◌, ◌++◌, take, filter, ◌==◌}
+use Rattle.std.specs.Prelude.{◌≡◌, ℕ, Bool, if◌then◌else◌, ◌&&◌, List, [], ◌∷◌, ◌++◌, take, filter, ◌==◌}
 use Rattle.std.specs.List.{flat_map}
 use Rattle.post.specs.Queues.{Letter, Queues, room, posted, reached, removed}
 
@@ -27,7 +27,7 @@ abbrev pub after_one : Queues → Operation → Queues
 after_one q a = operated q a.receiver a.sender a.kind
 
 abbrev pub brings : Queues → ℕ → ℕ → Kind → List Letter
-brings q r s (puts l) = cond (room q r s l.body) (l ∷ []) []
+brings q r s (puts l) = if room q r s l.body then l ∷ [] else []
 brings q r s (takes size) = []
 
 abbrev pub brought : Queues → Operation → List Letter
@@ -49,7 +49,7 @@ after q (a ∷ xs) = after (after_one q a) xs
 -- what each operation of one pair brings, or what each fetches
 abbrev pub told : (Queues → Operation → List Letter) → ℕ → ℕ → Queues → List Operation → List (List Letter)
 told f r s q [] = []
-told f r s q (a ∷ xs) = cond (of_pair r s a) (f q a ∷ told f r s (after_one q a) xs) (told f r s (after_one q a) xs)
+told f r s q (a ∷ xs) = if of_pair r s a then f q a ∷ told f r s (after_one q a) xs else told f r s (after_one q a) xs
 
 -- all of that, one behind the other
 abbrev pub in_a_row : List (List Letter) → List Letter

@@ -1,5 +1,5 @@
 -- Sets of tags, each in one number: tag t is in the set s when bit t of s is 1. Assumes nothing.
-use Rattle.std.specs.Prelude.{◌≡◌, ℕ, zero, suc, ◌/◌, ◌%◌, ◌^◌, Bool, true, cond, not, ◌&&◌, ◌||◌, ◌==◌, bit_and, bit_or, bit_xor, nat_lt}
+use Rattle.std.specs.Prelude.{◌≡◌, ℕ, zero, suc, ◌/◌, ◌%◌, ◌^◌, Bool, true, if◌then◌else◌, not, ◌&&◌, ◌||◌, ◌==◌, bit_and, bit_or, bit_xor, nat_lt}
 
 -- whether the tag t is in the set s
 unfoldable pub has : ℕ → ℕ → Bool
@@ -23,12 +23,12 @@ within a b = bit_and a b == a
 
 -- the set of the one tag t; a number above 63 is no tag, and its set is empty
 unfoldable pub only : ℕ → ℕ
-only t = cond (nat_lt t 64) (2 ^ t) 0
+only t = if nat_lt t 64 then 2 ^ t else 0
 
 -- the set of the numbers below n that pass a test
 unfoldable pub those_below : (ℕ → Bool) → ℕ → ℕ
 those_below f zero = 0
-those_below f (suc n) = union (those_below f n) (cond (f n) (2 ^ n) 0)
+those_below f (suc n) = union (those_below f n) (if f n then 2 ^ n else 0)
 
 -- the set of the tags that pass a test
 abbrev pub those : (ℕ → Bool) → ℕ

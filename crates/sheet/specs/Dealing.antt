@@ -1,5 +1,5 @@
 -- What a sheet holds, and what a deal does to it. Assumes nothing.
-use Rattle.std.specs.Prelude.{◌≡◌, ℕ, ◌%◌, Bool, true, false, cond, ◌&&◌, ◌||◌, length, replicate, Some, None, Ok, Err, Option, Result, ◌==◌, nat_lt, slice_index, slice_set}
+use Rattle.std.specs.Prelude.{◌≡◌, ℕ, ◌%◌, Bool, true, false, if◌then◌else◌, ◌&&◌, ◌||◌, length, replicate, Some, None, Ok, Err, Option, Result, ◌==◌, nat_lt, slice_index, slice_set}
 use Rattle.sets.specs.Sets.{has, union, only}
 use Rattle.dispenser.specs.Meaning.{Meaning}
 use Rattle.sheet.specs.Tags.{tags}
@@ -18,7 +18,10 @@ blank = record { lanes = replicate 48 0; adding = 0; taking = 0; all = 0 }
 -- why a deal of the tag to the lane is refused, if it is
 abbrev pub fault : Dealt → ℕ → ℕ → Option DealRefusal
 fault d tag lane =
-    cond (nat_lt 63 tag) (Some NoSuchTag) (cond (nat_lt 47 lane) (Some NoSuchLane) (cond (has tag d.all) (Some DealtBefore) None))
+    if nat_lt 63 tag then Some NoSuchTag
+    else (if nat_lt 47 lane then Some NoSuchLane
+    else (if has tag d.all then Some DealtBefore
+    else None))
 
 abbrev pub answer : Option DealRefusal → Result (Unit {0}) DealRefusal
 answer None = Ok tt
@@ -26,7 +29,7 @@ answer (Some refusal) = Err refusal
 
 -- the set with the tag, where the lane is of choice c
 abbrev pub added : ℕ → ℕ → ℕ → ℕ → ℕ
-added c s tag lane = cond (lane % 3 == c) (union s (only tag)) s
+added c s tag lane = if lane % 3 == c then union s (only tag) else s
 
 -- the tag in its lane
 abbrev pub placed : Dealt → ℕ → ℕ → Dealt

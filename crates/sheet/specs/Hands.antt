@@ -1,5 +1,5 @@
 -- What a sheet is once any list of deals has been tried on it: a tag lies where it was first dealt. Assumes nothing.
-use Rattle.std.specs.Prelude.{◌≡◌, ℕ, ◌%◌, ◌<◌, Bool, false, cond, ◌&&◌, List, [], ◌∷◌, Some, None, Option, ◌==◌, nat_lt}
+use Rattle.std.specs.Prelude.{◌≡◌, ℕ, ◌%◌, ◌<◌, Bool, false, if◌then◌else◌, ◌&&◌, List, [], ◌∷◌, Some, None, Option, ◌==◌, nat_lt}
 use Rattle.sets.specs.Sets.{has}
 use Rattle.dispenser.specs.Meaning.{Stands}
 use Rattle.sheet.specs.Dealing.{sheet, fault, left}
@@ -17,7 +17,7 @@ valid tag lane = nat_lt tag 64 && nat_lt lane 48
 -- the lane of the first valid deal of the tag t
 abbrev pub home : ℕ → List (ℕ × ℕ) → Option ℕ
 home t [] = None
-home t (x ∷ xs) = cond (x.0 == t && valid t x.1) (Some x.1) (home t xs)
+home t (x ∷ xs) = if x.0 == t && valid t x.1 then Some x.1 else home t xs
 
 -- whether there is a lane, and it is of choice c
 abbrev pub of_choice : ℕ → Option ℕ → Bool
