@@ -13,17 +13,17 @@ abbrev four : LetterSets → List ℕ
 four s = in_bytes 8 s.plus ++ (in_bytes 8 s.minus ++ (in_bytes 8 s.secrecy ++ in_bytes 8 s.integrity))
 
 -- the parts as the code writes them, the body last
-pub together : (s : LetterSets) (t p m a i u : List ℕ) → p ≡ in_bytes 8 s.plus → m ≡ in_bytes 8 s.minus → a ≡ in_bytes 8 s.secrecy → i ≡ in_bytes 8 s.integrity → u ≡ t
+pub together : (s : LetterSets) (n : ℕ) (t p m a i u : List ℕ) → n ≡ length t → p ≡ in_bytes 8 s.plus → m ≡ in_bytes 8 s.minus → a ≡ in_bytes 8 s.secrecy → i ≡ in_bytes 8 s.integrity → u ≡ t
     → length t ≤ 16
-    → put_mid 1 (1 + length t - 1) (put_mid 41 8 (put_mid 33 8 (put_mid 25 8 (put_mid 17 8 (set (replicate 49 0) 0 (length t)) p) m) a) i) u ≡ packed (record { sets = s; body = t })
-together s t p m a i u ep em ea ei eu h = rw (ep, em, ea, ei, eu) (ap (λ l. length t ∷ l) rest)
+    → put_mid 1 (1 + length t - 1) (put_mid 41 8 (put_mid 33 8 (put_mid 25 8 (put_mid 17 8 (set (replicate 49 0) 0 n) p) m) a) i) u ≡ packed (record { sets = s; body = t })
+together s n t p m a i u en ep em ea ei eu h = rw (en, ep, em, ea, ei, eu) (ap (λ l. length t ∷ l) rest)
   where
-    n : 1 + length t - 1 ≡ length t
-    n = omega arith
+    whole : 1 + length t - 1 ≡ length t
+    whole = omega arith
 
     rest : t ++ drop (1 + length t - 1) (replicate 16 0 ++ four s) ≡ padded t ++ four s
     rest =
-        ap (λ k. t ++ drop k (replicate 16 0 ++ four s)) n
+        ap (λ k. t ++ drop k (replicate 16 0 ++ four s)) whole
         ∙ ap (λ l. t ++ l) (drop-append-le (length t) (replicate 16 0) (four s) h ∙ ap (λ l. l ++ four s) (drop-replicate (length t) 16 0))
         ∙ sym (append_assoc t (replicate (16 - length t) 0) (four s))
 

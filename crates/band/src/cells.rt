@@ -13,8 +13,7 @@ pub(crate) fn pack(written: &Record) -> [u8; 49]
     let sets = written.sets();
     let body = written.body();
     let mut cell = [0; 49];
-    // A cast is plainer here than `try_from`, whose error could not come: it is proved to lose nothing.
-    cell[0] = body.len() as u8;
+    cell[0] = written.body_len();
     cell[17..25].copy_from_slice(&sets::to_bytes(sets.plus));
     cell[25..33].copy_from_slice(&sets::to_bytes(sets.minus));
     cell[33..41].copy_from_slice(&sets::to_bytes(sets.secrecy));
@@ -34,7 +33,7 @@ pub(crate) fn unpack(cell: &[u8; 49]) -> Record
         integrity: set_at(cell, 41),
     };
     let body = &cell[1..1 + len];
-    Record::new(Letter { sets, body }).unwrap()
+    Record::try_from(Letter { sets, body }).unwrap()
 }
 
 fn set_at(cell: &[u8; 49], at: usize) -> u64

@@ -1,22 +1,13 @@
 -- A post over lines: the queues that a put and a take leave, whatever the letters lie in. Assumes nothing.
-use Rattle.std.proofs.Common.{◌≡◌, ℕ, ◌≤◌, ◌<◌, true, false, cond, ◌&&◌, ltb, ◌⊎◌, List, length, Some, None, sym, ap, ◌∙◌, inl, inr}
-use Rattle.std.proofs.lemmas.Bool.{cases_Bool, cases_lt, le-leb, lt-leb, cond-true, cond-false}
+use Rattle.std.proofs.Common.{◌≡◌, ℕ, ◌≤◌, true, false, cond, ◌&&◌, ltb, ◌⊎◌, List, length, Some, None, sym, ap, ◌∙◌, inl, inr}
+use Rattle.std.proofs.lemmas.Bool.{cases_Bool, le-leb, cond-true, cond-false}
 use Rattle.std.proofs.lemmas.Option.{none-some}
 use Rattle.post.specs.Queues.{Letter, Queues, valid, upd, room, posted, removed}
-use Rattle.post.specs.Records.{fitted}
 use Rattle.post.specs.Places.{places, vacant, next, added, freed, lying}
 use Rattle.post.specs.Laws.{counted}
 use Rattle.post.specs.declared.lines.Lines.{Lines}
 use Rattle.post.proofs.Pairs.{one_more, one_less}
 use Rattle.post.proofs.Turns.{next_free}
-
--- the letter that a record was made of
-fits : (l m : Letter) → Some l ≡ fitted m → (l ≡ m) × (length m.body ≤ 16)
-fits l m h = go (cases_lt 16 (length m.body))
-  where
-    go : (16 < length m.body) ⊎ (length m.body ≤ 16) → (l ≡ m) × (length m.body ≤ 16)
-    go (inl b) = absurd (none-some l (sym (h ∙ cond-false _ _ _ (lt-leb (length m.body) 16 b))))
-    go (inr b) = let e : Some l ≡ Some m = h ∙ cond-true _ _ _ (le-leb (length m.body) 16 b) in let q : l ≡ m = cc in (q, b)
 
 module _ (at : ℕ → Letter) (l : Lines) where
   -- the queues of the post
@@ -37,10 +28,10 @@ module _ (at : ℕ → Letter) (l : Lines) where
       go (inl v) = let e : Some k ≡ Some (next l r s) = h ∙ cond-true _ _ _ v in let q : k ≡ next l r s = cc in (v, q)
       go (inr v) = absurd (none-some k (sym (h ∙ cond-false _ _ _ v)))
 
-  pub put_left : (r s k : ℕ) (m x : Letter) (q : ℕ → Letter) (ps : ℕ → ℕ → List ℕ) → q ≡ upd at k x → Some x ≡ fitted m → Next r s k → ps ≡ added l r s → lying q ps ≡ posted queues r s m
-  put_left r s k m x q ps w t h e =
+  pub put_left : (r s k : ℕ) (m x : Letter) (q : ℕ → Letter) (ps : ℕ → ℕ → List ℕ) → q ≡ upd at k x → (x ≡ m) × (length m.body ≤ 16) → Next r s k → ps ≡ added l r s
+      → lying q ps ≡ posted queues r s m
+  put_left r s k m x q ps w f h e =
       let g = gets r s k h in
-      let f = fits x m t in
       ap (λ a. lying a ps) (w ∙ ap (upd at k) f.0)
       ∙ ap (lying (upd at k m)) (e ∙ cond-true _ _ _ g.0) ∙ rw g.1 (one_more at (places l) r s (next l r s) m (next_free l r s g.0))
       ∙ sym (cond-true _ _ _ (roomy r s m f.1 ∙ g.0))

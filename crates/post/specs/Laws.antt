@@ -10,8 +10,12 @@ use Rattle.post.specs.declared.lines.Lines.{Lines}
 use Rattle.post.specs.declared.lines.line.Line.{Line}
 use Rattle.post.specs.declared.record.Record.{Record}
 
+-- a body is as long as its record says
+pub body_length : (x : Record) → length (letter_in x).body ≡ x.len
+body_length x = let t = length-take x.len x.body in omega (arith, x.short, x.whole)
+
 pub short_body : (x : Record) → length (letter_in x).body ≤ 16
-short_body x = let t = length-take x.len x.body in omega (arith, x.short, x.whole)
+short_body x = omega (arith, body_length x, x.short)
 
 pub length-ring : (p f n : ℕ) → length (ring p f n) ≡ n
 unfolding ring

@@ -29,6 +29,7 @@ impl Lines {
     pub fn count(&self, pair: Pair) -> u8
         ensures { result ≡ length (places self.now pair.receiver pair.sender) }
     {
+        // `map_or` is no plainer: its closure would have to require that the number is below 256.
         match pair.number() {
             Some(number) => self.lines[number].count,
             None => 0,

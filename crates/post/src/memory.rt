@@ -50,8 +50,7 @@ impl<M: Memory> MemoryPost<M> {
     pub fn into_memory(self) -> M
         ensures { result ≡ self.memory }
     {
-        let MemoryPost { memory, lines: _ } = self;
-        memory
+        self.memory
     }
 }
 
@@ -65,7 +64,7 @@ impl<M: Memory> Post for MemoryPost<M> {
     ghost lawful = { λ p. lawful (M.letters p.memory) p.lines (M.short p.memory) };
 
     fn put(&mut self, pair: Pair, letter: Letter<'_>) -> Result<(), Full> {
-        let record = Record::new(letter).ok_or(Full)?;
+        let record = Record::try_from(letter)?;
         let place = self.lines.add(pair).ok_or(Full)?;
         self.memory.store(place, record);
         Ok(())

@@ -1,12 +1,13 @@
 // What a post answers to a list of operations, for a rack and a band alike; and memory of three sizes.
-use band::{Band, Bytes};
+use band::{Band, Bytes, LentBytes};
 use post::{Full, Letter, LetterSets, Pair, Post, PostFault, Record, Taken};
-use rack::{Rack, Records};
+use rack::{LentRecords, Rack, Records};
 use std::fmt::Debug;
 use std::test::Fail;
 
 // Sender, receiver, and then: of a put the letter's mark, its body's length and the answer; of a take the buffer's
-// size, and the mark and the length of the letter that is answered; of a count the answer.
+// size, and the mark and the length of the letter that is answered; of a count the answer. Closures in place of the rows are
+// no plainer: a constant table cannot hold them.
 #[derive(Clone, Copy)]
 enum Row {
     Puts(u8, u8, u8, u8, Result<(), Full>),
@@ -132,26 +133,31 @@ fn follow_all<P: Post>(post: &mut P) -> Result<(), Fail> {
     Ok(())
 }
 
+// The tests come in pairs, one for each kind of post, and share all but how its memory is made and looked at.
+
 #[test]
 fn rack_follows_the_table(rt: HostRuntime) -> Result<(), Fail> {
     let mut memory = vec![in rt.alloc(); Record::blank(); 1024]?;
-    Records::check(&memory)?;
-    follow_all(&mut Rack::new(Records::new(&mut memory)))
+    LentRecords::check(&memory)?;
+    follow_all(&mut Rack::new(Records(LentRecords::new(&mut memory))))
 }
 
 #[test]
 fn band_follows_the_table(rt: HostRuntime) -> Result<(), Fail> {
     let mut memory = vec![in rt.alloc(); 255; 50176]?;
-    Bytes::check(&memory)?;
-    follow_all(&mut Band::new(Bytes::new(&mut memory)))
+    LentBytes::check(&memory)?;
+    follow_all(&mut Band::new(Bytes(LentBytes::new(&mut memory))))
 }
 
 #[test]
 fn one_place_less_is_refused(rt: HostRuntime) -> Result<(), Fail> {
     let records = vec![in rt.alloc(); Record::blank(); 1023]?;
-    assert_eq!(rt; Records::check(&records), Err(PostFault::TooLittleMemory));
+    assert_eq!(rt;
+        LentRecords::check(&records),
+        Err(PostFault::TooLittleMemory)
+    );
     let bytes = vec![in rt.alloc(); 0u8; 50175]?;
-    assert_eq!(rt; Bytes::check(&bytes), Err(PostFault::TooLittleMemory));
+    assert_eq!(rt; LentBytes::check(&bytes), Err(PostFault::TooLittleMemory));
     assert_eq!(rt; u8::from(PostFault::TooLittleMemory), 1);
     Ok(())
 }
@@ -161,10 +167,10 @@ fn one_place_less_is_refused(rt: HostRuntime) -> Result<(), Fail> {
 fn rack_leaves_what_lies_behind(rt: HostRuntime) -> Result<(), Fail> {
     let mut memory = vec![in rt.alloc(); Record::blank(); 1028]?;
     assert!(rt; memory.len() == 1028);
-    follow_all(&mut Rack::new(Records::new(&mut memory[4..1028])))?;
-    let mut rack = Rack::new(Records::new(&mut memory));
+    follow_all(&mut Rack::new(Records(LentRecords::new(&mut memory[4..1028]))))?;
+    let mut rack = Rack::new(Records(LentRecords::new(&mut memory)));
     follow_all(&mut rack)?;
-    let memory = rack.into_memory().into_slice();
+    let memory = rack.into_memory().0.into_slice();
     assert!(rt; memory.len() == 1028);
     // this rack's last letter, and behind it the first and the last of the other's last pair
     assert_eq!(rt; memory[1023].sets(), sets_of(23));
@@ -176,10 +182,10 @@ fn rack_leaves_what_lies_behind(rt: HostRuntime) -> Result<(), Fail> {
 #[test]
 fn band_leaves_what_lies_behind(rt: HostRuntime) -> Result<(), Fail> {
     let mut memory = vec![in rt.alloc(); 165u8; 50178]?;
-    Bytes::check(&memory)?;
-    let mut band = Band::new(Bytes::new(&mut memory));
+    LentBytes::check(&memory)?;
+    let mut band = Band::new(Bytes(LentBytes::new(&mut memory)));
     follow_all(&mut band)?;
-    let memory = band.into_memory().into_slice();
+    let memory = band.into_memory().0.into_slice();
     assert!(rt; memory.len() == 50178);
     // the last byte of the last letter's integrity set
     assert_eq!(rt; memory[50175], 255 - 23);

@@ -1,7 +1,8 @@
 // The line of one pair.
 ghost use Rattle.std.specs.Prelude.{◌≡◌, ◌+◌, ◌%◌, ◌<◌, ◌≤◌, nat_lt};
 
-// Its letters have turns that follow one another, the oldest having the first; how many letters wait.
+// Its letters have turns that follow one another, the oldest having the first; how many letters wait. A first and a count in
+// place of a list, since letters lie in memory of a fixed size.
 #[derive(Clone, Copy)]
 pub(super) struct Line {
     first: u8,

@@ -3,7 +3,8 @@ ghost use Rattle.std.specs.Prelude.{◌≡◌, ℕ, ◌+◌, ◌*◌, ◌%◌, �
 
 use std::marker::Model;
 
-// One of 1,024 places, each of which holds a letter. Clauses see its number.
+// One of 1,024 places, each of which holds a letter. Clauses see its number. It is an index, since letters lie in memory of
+// a fixed size. The dispenser's `Lane` is alike, and stays apart: no crate below both would be its place.
 #[derive(Clone, Copy, PartialEq, Eq, Debug)]
 pub struct Place {
     number: usize,
@@ -29,11 +30,12 @@ impl Place {
             number: pair * 4 + turn % 4,
         }
     }
+}
 
-    pub fn number(self) -> usize
-        ensures in_range { result < 1024 }
-        ensures same { result ≡ self }
-    {
-        self.number
+impl From<Place> for usize {
+    ghost from_gives = { λ place n. (n ≡ place) × (n < 1024) };
+
+    fn from(place: Place) -> usize {
+        place.number
     }
 }

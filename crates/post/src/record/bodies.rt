@@ -1,10 +1,9 @@
 // Letters into records and out again.
 ghost use Rattle.std.specs.Prelude.{◌≡◌, ◌≤◌, [], ◌∷◌, length};
-ghost use Rattle.std.specs.Option.{option_map};
 ghost use Rattle.post.specs.Queues.{written};
-ghost use Rattle.post.specs.Records.{letter_in, blank, fitted};
+ghost use Rattle.post.specs.Records.{letter_in, blank, Fitted};
 
-use crate::{Letter, LetterSets, Record, Taken};
+use crate::{Full, Letter, LetterSets, Record, Taken};
 
 impl Record {
     // A record to make memory of.
@@ -16,23 +15,6 @@ impl Record {
             len: 0,
             body: [0; 16],
         }
-    }
-
-    // None for a body over 16 bytes.
-    pub fn new(letter: Letter<'_>) -> Option<Record>
-        ensures { option_map letter_in result ≡ fitted (record { sets = letter.entry.sets; body = letter.entry.body.now }) }
-    {
-        let len = u8::try_from(letter.body.len()).ok()?;
-        if len > 16 {
-            return None;
-        }
-        let mut body = [0; 16];
-        body[..usize::from(len)].copy_from_slice(letter.body);
-        Some(Record {
-            sets: letter.sets,
-            len,
-            body,
-        })
     }
 
     pub fn sets(&self) -> LetterSets
@@ -47,6 +29,12 @@ impl Record {
         &self.body[..usize::from(self.len)]
     }
 
+    pub fn body_len(&self) -> u8
+        ensures { result ≡ length (letter_in self.now).body }
+    {
+        self.len
+    }
+
     // The body goes to the front of the buffer.
     pub(crate) fn read(&self, buffer: &mut [u8]) -> Taken
         requires { 16 ≤ length buffer.old }
@@ -57,7 +45,28 @@ impl Record {
         buffer[..body.len()].copy_from_slice(body);
         Taken {
             sets: self.sets,
-            len: self.len,
+            len: self.body_len(),
         }
+    }
+}
+
+// A body over 16 bytes is refused.
+impl TryFrom<Letter<'_>> for Record {
+    type Error = Full;
+
+    ghost try_from_gives = { λ letter r. Fitted (record { sets = letter.sets; body = letter.body.now }) r };
+
+    fn try_from(letter: Letter<'_>) -> Result<Record, Full> {
+        let len = u8::try_from(letter.body.len()).map_err(|_| Full)?;
+        if len > 16 {
+            return Err(Full);
+        }
+        let mut body = [0; 16];
+        body[..usize::from(len)].copy_from_slice(letter.body);
+        Ok(Record {
+            sets: letter.sets,
+            len,
+            body,
+        })
     }
 }

@@ -6,10 +6,10 @@ use Rattle.band.proofs.BytesMemory.store.Goals as goal
 
 pub returns : goal.returns
 returns c =
-    let b = c.args.self.now.bytes.now in
+    let b = c.args.self.now.0.items.now in
     let k = c.args.place in
     let x = c.pack.result in
-    let long : k * 49 + 49 ≤ length b = omega (arith, c.args.self.now.enough) in
+    let long : k * 49 + 49 ≤ length b = omega (arith, c.args.self.now.0.enough) in
     let whole : length x ≡ 49 = search rules in
     record {
       letters = ap banded c.write.ensures.bytes ∙ one_letter b x k long whole ∙ ap (upd (banded b) k) (ap unpacked c.pack.ensures.bytes ∙ c.pack.ensures.back);

@@ -1,4 +1,4 @@
-use Rattle.std.proofs.Common.{◌≡◌, ◌≤◌, length, ap, ◌∙◌, arith, rules}
+use Rattle.std.proofs.Common.{◌≡◌, ◌≤◌, length, ap, sym, ◌∙◌, arith, rules}
 use Rattle.post.specs.Laws.{short_body}
 use Rattle.post.specs.Queues.{Letter}
 use Rattle.post.specs.Records.{letter_in}
@@ -15,8 +15,8 @@ returns c =
     let fits : length m.body ≤ 16 = omega (arith, short, ap (λ x. length x.body) e) in
     record {
       bytes =
-          together m.sets m.body c.copy_from_slice.new.self c.copy_from_slice-2.new.self c.copy_from_slice-3.new.self c.copy_from_slice-4.new.self c.copy_from_slice-5.new.self
-          (c.copy_from_slice.ensures.after ∙ c.to_bytes.ensures.bytes) (c.copy_from_slice-2.ensures.after ∙ c.to_bytes-2.ensures.bytes)
+          together m.sets c.body_len.result m.body c.copy_from_slice.new.self c.copy_from_slice-2.new.self c.copy_from_slice-3.new.self c.copy_from_slice-4.new.self c.copy_from_slice-5.new.self
+          (c.body_len.ensures ∙ ap (λ x. length x.body) (sym e)) (c.copy_from_slice.ensures.after ∙ c.to_bytes.ensures.bytes) (c.copy_from_slice-2.ensures.after ∙ c.to_bytes-2.ensures.bytes)
           (c.copy_from_slice-3.ensures.after ∙ c.to_bytes-3.ensures.bytes) (c.copy_from_slice-4.ensures.after ∙ c.to_bytes-4.ensures.bytes)
           c.copy_from_slice-5.ensures.after fits
           ∙ ap packed e;
