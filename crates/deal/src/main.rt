@@ -8,13 +8,19 @@ use dispenser::quota::Quota;
 use dispenser::roll::Roll;
 use dispenser::shuffle::Shuffle;
 use dispenser::{Dispenser, Lane, OpenSets};
-use sheet::{Deal, Sheet};
+use sheet::{Deal, Dealing, Sheet};
 use std::io;
 
-// A tag and the lane it is dealt to.
-const DEALS: [(u8, u8); 6] = [(9, 2), (4, 2), (40, 2), (33, 47), (5, 0), (63, 1)];
+const DEALS: [Dealing; 6] = [
+    Dealing { tag: 9, lane: 2 },
+    Dealing { tag: 4, lane: 2 },
+    Dealing { tag: 40, lane: 2 },
+    Dealing { tag: 33, lane: 47 },
+    Dealing { tag: 5, lane: 0 },
+    Dealing { tag: 63, lane: 1 },
+];
 
-// Two tasks draw in turn until their lanes are empty; then task 0 on its other lanes; lane 48 is nobody's.
+// Two tasks draw in turn until their lanes are empty; then task 0 on its other lanes; there is no lane 48.
 const LANES: [u8; 11] = [2, 47, 2, 47, 2, 47, 0, 0, 1, 1, 48];
 
 fn main(rt: HostRuntime) -> io::Result<()> {
@@ -39,18 +45,19 @@ fn main(rt: HostRuntime) -> io::Result<()> {
 
 fn dealt(rt: &impl Print) -> io::Result<Sheet> {
     let mut deal = Deal::new();
-    for (tag, lane) in DEALS {
-        deal_one(rt, &mut deal, tag, lane)?;
+    for dealing in DEALS {
+        deal_one(rt, &mut deal, dealing)?;
     }
     // Tag 9 is dealt already.
-    deal_one(rt, &mut deal, 9, 0)?;
+    deal_one(rt, &mut deal, Dealing { tag: 9, lane: 0 })?;
     let sheet = deal.finish();
     println!(rt; "the sheet is finished")?;
     Ok(sheet)
 }
 
-fn deal_one(rt: &impl Print, deal: &mut Deal, tag: u8, lane: u8) -> io::Result<()> {
-    match deal.deal(tag, lane) {
+fn deal_one(rt: &impl Print, deal: &mut Deal, dealing: Dealing) -> io::Result<()> {
+    let Dealing { tag, lane } = dealing;
+    match deal.deal(dealing) {
         Ok(()) => println!(rt; "tag {tag} to lane {lane}: dealt"),
         Err(refusal) => println!(rt; "tag {tag} to lane {lane}: refused {}", u8::from(refusal)),
     }

@@ -10,6 +10,6 @@ quota m q = record { lane = λ k. take (min q 3) (m.lane k); opens = m.opens }
 abbrev pub cut : Meaning → List ℕ → Meaning
 cut m left = record { lane = λ k. take (slice_index left k) (m.lane k); opens = m.opens }
 
--- what a draw on lane k leaves below: nothing is asked there once the lane's allowance is spent
+-- what a draw on lane k leaves below: nothing is drawn there once the lane's allowance is 0
 abbrev pub passed_on : Meaning → List ℕ → ℕ → Meaning
 passed_on m left k = if nat_lt 0 (slice_index left k) then drawn m k else m

@@ -1,4 +1,4 @@
--- The open sets of the roll, and that it keeps the laws and starts full. Assumes nothing.
+-- The open sets of the roll, and that it keeps the laws and starts with every tag. Assumes nothing.
 use Rattle.std.specs.Prelude.{◌≡◌, ℕ, zero, suc, ◌+◌, ◌*◌, ◌/◌, ◌%◌, ◌<◌, ◌≤◌, false, ◌&&◌, ◌||◌, ◌⊎◌, List, [], drop, replicate, Some, ◌==◌, nat_lt, slice_index, refl}
 use Rattle.std.proofs.Common.{sym, ap, ◌∙◌, inl, inr, arith}
 use Rattle.std.specs.List.{slice_get}
@@ -41,7 +41,7 @@ choice_is i (suc (suc (suc c))) a t h = absurd (none-some t h)
 lane_past : (k : ℕ) → 48 ≤ k → full_lane k ≡ []
 lane_past k h = cond-false (nat_lt k 48) (choice_tags (k / 3) (k % 3)) [] (le-ltb k 48 h)
 
-lane_is : (k : ℕ) → k < 48 → full_lane k ≡ choice_tags (k / 3) (k % 3)
+pub lane_is : (k : ℕ) → k < 48 → full_lane k ≡ choice_tags (k / 3) (k % 3)
 lane_is k h = cond-true (nat_lt k 48) (choice_tags (k / 3) (k % 3)) [] (lt-ltb k 48 h)
 
 stands_is : (k a t : ℕ) → Stands full_roll k a t → (k < 48) × Is (k / 3) (k % 3) a t

@@ -13,6 +13,7 @@ pub struct Draw {
 }
 
 // Draws on each lane of the list in turn and writes down each answer.
+#[tactic(auto, using(crate::proofs::Runs::never_twice, crate::proofs::Runs::own_lanes_only))]
 pub fn draw_all<D: Dispenser>(dispenser: &mut D, draws: &mut [Draw])
     ensures answers { draws.new ≡ answered (D.meaning dispenser.old) (lanes_of draws.old) }
     ensures left { D.meaning dispenser.new ≡ after (D.meaning dispenser.old) (lanes_of draws.old) }

@@ -5,6 +5,7 @@ ghost use Rattle.dispenser.specs.Choices.{code};
 use crate::Choice;
 use std::marker::Model;
 
+// post's `Place` is alike, a number with a bound and a model: no crate below both is one where a common type would belong.
 #[derive(Clone, Copy, PartialEq, Eq, Debug)]
 pub struct Lane {
     number: u8,
@@ -21,7 +22,8 @@ impl Model for Lane {
 }
 
 impl Lane {
-    // A number above 47 is no lane.
+    // A number above 47 is no lane. An Option and no TryFrom: each draw answers an Option too, so an error type would be made
+    // only to be dropped there (`.ok()?`). std's `NonZero::new` has the same form.
     pub fn new(number: u8) -> Option<Lane>
         ensures there { IsSome result ↔ (number < 48) }
         ensures same { IfSome result (λ lane. lane ≡ number) }
@@ -31,14 +33,6 @@ impl Lane {
         } else {
             None
         }
-    }
-
-    // Its place in a list of all lanes.
-    pub fn index(self) -> usize
-        ensures in_range { result < 48 }
-        ensures same { result ≡ self }
-    {
-        usize::from(self.number)
     }
 
     pub fn task(self) -> u8
@@ -56,5 +50,14 @@ impl Lane {
             1 => Choice::Taking,
             _ => Choice::Adding,
         }
+    }
+}
+
+// The lane's place in a list of all lanes.
+impl From<Lane> for usize {
+    ghost from_gives = { λ lane n. (n < 48) × (n ≡ lane) };
+
+    fn from(lane: Lane) -> usize {
+        usize::from(lane.number)
     }
 }

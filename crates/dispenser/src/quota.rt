@@ -25,7 +25,7 @@ impl Allowance {
     fn of(&self, lane: Lane) -> u8
         ensures { result ≡ slice_index self.now.left lane }
     {
-        self.left[lane.index()]
+        self.left[usize::from(lane)]
     }
 
     fn spend(&mut self, lane: Lane)
@@ -33,7 +33,7 @@ impl Allowance {
         ensures { self.new.left ≡ slice_set self.old.left lane (slice_index self.old.left lane - 1) }
     {
         let left = self.of(lane);
-        self.left[lane.index()] = left - 1;
+        self.left[usize::from(lane)] = left - 1;
     }
 }
 
@@ -55,7 +55,8 @@ impl<D: Dispenser> Quota<D> {
         }
     }
 
-    // The dispenser below, as the draws have left it. A trait for this and the shuffle's is no plainer: each impl has the line.
+    // The dispenser below, as the draws have left it. A trait for this and the shuffle's is no plainer: each impl would repeat
+    // the line.
     pub fn into_below(self) -> D
         ensures { result ≡ self.below }
     {

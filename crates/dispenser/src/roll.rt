@@ -28,9 +28,9 @@ impl Dispenser for Roll {
 
     fn draw(&mut self, lane: u8) -> Option<u8> {
         let lane = Lane::new(lane)?;
-        let used = self.used[lane.index()];
+        let used = self.used[usize::from(lane)];
         let tag = tag_at(lane, used)?;
-        self.used[lane.index()] = used + 1;
+        self.used[usize::from(lane)] = used + 1;
         Some(tag)
     }
 

@@ -19,7 +19,8 @@ impl<D: Dispenser> Shuffle<D> {
         Shuffle { below }
     }
 
-    // The dispenser below, as the draws have left it. A trait for this and the quota's is no plainer: each impl has the line.
+    // The dispenser below, as the draws have left it. A trait for this and the quota's is no plainer: each impl would repeat
+    // the line.
     pub fn into_below(self) -> D
         ensures { result ≡ self.below }
     {

@@ -1,9 +1,9 @@
-// Both sides of each edge: lanes 47 and 48, tags 63 and 64, quotas 3, 4 and 255, empty lanes, piles.
+// Both sides of each edge: lanes 47 and 48, tags 63 and 64, quotas 3, 4 and 255, empty lanes, layers over layers.
 use dispenser::Dispenser;
 use dispenser::quota::Quota;
 use dispenser::roll::Roll;
 use dispenser::shuffle::Shuffle;
-use sheet::{Deal, DealRefusal, Sheet};
+use sheet::{Deal, DealRefusal, Dealing, Sheet};
 use std::test::Fail;
 
 #[test]
@@ -25,14 +25,14 @@ fn roll_has_48_lanes(rt: HostRuntime) {
 #[test]
 fn deals_are_refused_at_the_edges(rt: HostRuntime) {
     let mut deal = Deal::new();
-    for (tag, lane, answer) in [
-        (63, 47, Ok(())),
-        (64, 47, Err(DealRefusal::NoSuchTag)),
-        (62, 48, Err(DealRefusal::NoSuchLane)),
-        (64, 48, Err(DealRefusal::NoSuchTag)),
-        (63, 0, Err(DealRefusal::DealtBefore)),
+    for (dealing, answer) in [
+        (Dealing { tag: 63, lane: 47 }, Ok(())),
+        (Dealing { tag: 64, lane: 47 }, Err(DealRefusal::NoSuchTag)),
+        (Dealing { tag: 62, lane: 48 }, Err(DealRefusal::NoSuchLane)),
+        (Dealing { tag: 64, lane: 48 }, Err(DealRefusal::NoSuchTag)),
+        (Dealing { tag: 63, lane: 0 }, Err(DealRefusal::DealtBefore)),
     ] {
-        assert_eq!(rt; deal.deal(tag, lane), answer);
+        assert_eq!(rt; deal.deal(dealing), answer);
     }
     assert_eq!(rt; u8::from(DealRefusal::DealtBefore), 2);
     let mut sheet = deal.finish();
@@ -41,11 +41,17 @@ fn deals_are_refused_at_the_edges(rt: HostRuntime) {
     }
 }
 
-// Four tags in lane 2, dealt from above, and one in lane 1.
+// Four tags in lane 2, the highest dealt first, and one in lane 1.
 fn small_sheet() -> Result<Sheet, DealRefusal> {
     let mut deal = Deal::new();
-    for (tag, lane) in [(40, 2), (30, 2), (20, 2), (10, 2), (0, 1)] {
-        deal.deal(tag, lane)?;
+    for dealing in [
+        Dealing { tag: 40, lane: 2 },
+        Dealing { tag: 30, lane: 2 },
+        Dealing { tag: 20, lane: 2 },
+        Dealing { tag: 10, lane: 2 },
+        Dealing { tag: 0, lane: 1 },
+    ] {
+        deal.deal(dealing)?;
     }
     Ok(deal.finish())
 }

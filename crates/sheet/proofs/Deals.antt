@@ -32,7 +32,7 @@ blank_sound = record {
 
 -- ---- one tag more, which was not dealt before
 
--- a deal is refused, or all is well with it
+-- a deal is refused, or there are such a tag and lane and the tag has none yet
 abbrev pub Fine : Dealt → ℕ → ℕ → Type 0
 Fine d tag lane = (tag < 64) × (lane < 48) × (has tag d.all ≡ false)
 

@@ -1,12 +1,13 @@
 -- A draw takes the lowest tag of a lane, and keeps a sheet sound. Assumes nothing.
-use Rattle.std.proofs.Common.{◌≡◌, ℕ, ◌^◌, ◌<◌, true, false, eqb, ◌⊎◌, ◌∷◌, length, get_or, drop, set, Some, sym, refl, ap, ◌∙◌, inl, inr, arith, length-set}
+use Rattle.std.proofs.Common.{◌≡◌, ℕ, ◌^◌, ◌<◌, Bool, true, false, if◌then◌else◌, eqb, nat_eq, ◌⊎◌, ◌∷◌, length, get_or, drop, set, Some, None, sym, refl, ap, ◌∙◌, inl, inr, arith, length-set}
 use lib.Count.{count_trailing_zeros}
 use mir.Syntax.{w64}
 use Rattle.std.specs.Int.{bit_at}
 use Rattle.std.proofs.lemmas.Nat.Bits.{bit_at-trailing_zeros}
 use Rattle.std.proofs.lemmas.List.{get_or-set_same, get_or-set_other}
 use Rattle.std.proofs.Math.Bool.{and-true}
-use Rattle.std.proofs.lemmas.Bool.{and_parts, and_right, cases_eq, eq-eqb, ne_eqb, lt-ltb}
+use Rattle.std.proofs.lemmas.Bool.{and_parts, and_right, cases_eq, eq-eqb, ne_eqb, lt-ltb, false≢true}
+use Rattle.std.proofs.lemmas.Option.{none-some}
 use Rattle.sets.specs.Sets.{has, without, only}
 use Rattle.sets.proofs.Bits.{has-without, has-only}
 use Rattle.dispenser.specs.Meaning.{first, drawn}
@@ -60,17 +61,26 @@ tags_cleared s h d = tags_low s (without s (only z)) z low.0 (ap (λ x. eqb x 1)
     kept : (t : ℕ) → (t ≡ z → ⊥) → has t (without s (only z)) ≡ has t s
     kept t n = has-without t s (only z) ∙ rw (has-only t z, ne_eqb t z n) (and-true (has t s))
 
-pub draw_lowest : (d : Dealt) (k : ℕ) → k < length d.lanes → get_or d.lanes k 0 < 2 ^ 64 → (get_or d.lanes k 0 ≡ 0 → ⊥) →
+-- a tag that is the lowest, if there is one: then there is one
+lowest_of : (s t z : ℕ) → Some z ≡ (if nat_eq s 0 then None else Some t) → (s ≡ 0 → ⊥) × (t ≡ z)
+lowest_of s t z h = go (eqb s 0) refl h
+  where
+    go : (b : Bool) → eqb s 0 ≡ b → Some z ≡ (if b then None else Some t) → (s ≡ 0 → ⊥) × (t ≡ z)
+    go true e o = absurd (none-some z (sym o))
+    go false e o = (λ n. false≢true (sym e ∙ eq-eqb s 0 n), cc)
+
+pub draw_lowest : (d : Dealt) (k z : ℕ) → k < length d.lanes → get_or d.lanes k 0 < 2 ^ 64 → Some z ≡ (if nat_eq (get_or d.lanes k 0) 0 then None else Some (count_trailing_zeros 64 (get_or d.lanes k 0))) →
     record {
-      answer : Some (count_trailing_zeros 64 (get_or d.lanes k 0)) ≡ first ((sheet d).lane k);
-      left : sheet (with_lane d k (without (get_or d.lanes k 0) (only (count_trailing_zeros 64 (get_or d.lanes k 0))))) ≡ drawn (sheet d) k;
+      answer : Some z ≡ first ((sheet d).lane k);
+      left : sheet (with_lane d k (without (get_or d.lanes k 0) (only z))) ≡ drawn (sheet d) k;
     }
-draw_lowest d k l h n =
+draw_lowest d k z l h o =
     let s = get_or d.lanes k 0 in
-    let e = tags_cleared s h n in
+    let p = lowest_of s (count_trailing_zeros 64 s) z o in
+    let e : tags s ≡ z ∷ tags (without s (only z)) = rw p.1 at (tags_cleared s h p.0) in
     record {
       answer = sym (ap first e);
-      left = drawn_by (sheet d) (sheet (with_lane d k (without s (only (count_trailing_zeros 64 s))))) k refl
+      left = drawn_by (sheet d) (sheet (with_lane d k (without s (only z)))) k refl
           (ap tags (get_or-set_same d.lanes k _ 0 l) ∙ sym (ap (drop 1) e))
           (λ j m. ap tags (get_or-set_other d.lanes k j _ 0 m));
     }

@@ -71,7 +71,7 @@ stays d (x ∷ xs) t sound h =
     one_deal (inl e) (inr f) = absurd (false≢true (sym f.1.2 ∙ ap (λ y. has y d.all) (sym e) ∙ h))
     one_deal (inr n) v = step_other d x.0 x.1 t sound n
 
--- ---- a tag that is not dealt comes to its home
+-- ---- a tag that is not dealt goes to the lane of its first valid deal
 
 abbrev is_lane : ℕ → Option ℕ → Bool
 is_lane k None = false
@@ -86,7 +86,7 @@ record AtHome (t : ℕ) (d : Dealt) (o : Option ℕ) : Type 0 where
 at_home_same : (t : ℕ) (d e : Dealt) (o : Option ℕ) → Same t d e → AtHome t e o → AtHome t d o
 at_home_same t d e o s h = record { lanes = λ k. s.lanes k ∙ h.lanes k; taking = s.taking ∙ h.taking; adding = s.adding ∙ h.adding }
 
--- the deal that brings it home
+-- the deal that puts it there
 brought : (d : Dealt) (tag lane : ℕ) → Sound d → (fault d tag lane ≡ None) × Fine d tag lane → AtHome tag (step d tag lane) (Some lane) × (has tag (step d tag lane).all ≡ true)
 brought d tag lane sound f =
     let q = same_from tag (step d tag lane) (placed d tag lane) (ap (left d tag lane) f.0) in

@@ -4,7 +4,7 @@ ghost use Rattle.sets.specs.Sets.{union};
 ghost use Rattle.dispenser.specs.Choices.{code};
 ghost use Rattle.sheet.specs.Dealing.{blank, fault, placed};
 
-use crate::DealRefusal;
+use crate::{DealRefusal, Dealing};
 use dispenser::{Choice, Lane};
 
 #[derive(Clone, Copy)]
@@ -28,15 +28,15 @@ impl Dealt {
     }
 
     // The lane, if there are such a tag and lane and the tag has none yet.
-    pub(crate) fn check(&self, tag: u8, lane: u8) -> Result<Lane, DealRefusal>
-        ensures ok { IfOk result (λ l. (l ≡ lane) × (fault self.now tag lane ≡ None)) }
-        ensures err { IfErr result (λ refusal. fault self.now tag lane ≡ Some refusal) }
+    pub(crate) fn check(&self, dealing: Dealing) -> Result<Lane, DealRefusal>
+        ensures ok { IfOk result (λ l. (l ≡ dealing.lane) × (fault self.now dealing.tag dealing.lane ≡ None)) }
+        ensures err { IfErr result (λ refusal. fault self.now dealing.tag dealing.lane ≡ Some refusal) }
     {
-        if tag > 63 {
+        if dealing.tag > 63 {
             return Err(DealRefusal::NoSuchTag);
         }
-        let lane = Lane::new(lane).ok_or(DealRefusal::NoSuchLane)?;
-        if sets::has(self.all, tag) {
+        let lane = Lane::new(dealing.lane).ok_or(DealRefusal::NoSuchLane)?;
+        if sets::has(self.all, dealing.tag) {
             return Err(DealRefusal::DealtBefore);
         }
         Ok(lane)
@@ -46,7 +46,8 @@ impl Dealt {
         ensures { self.new ≡ placed self.old tag lane }
     {
         let one = sets::only(tag);
-        self.lanes[lane.index()] = sets::union(self.lanes[lane.index()], one);
+        let at = usize::from(lane);
+        self.lanes[at] = sets::union(self.lanes[at], one);
         self.adding = with_choice(self.adding, one, lane, Choice::Adding);
         self.taking = with_choice(self.taking, one, lane, Choice::Taking);
         self.all = sets::union(self.all, one);

@@ -1,7 +1,7 @@
 // The sheet: a dispenser whose tags are given to its lanes by hand, singly.
 #![tactic(auto)]
 
-ghost use Rattle.std.specs.Prelude.{◌≡◌, ℕ, List};
+ghost use Rattle.std.specs.Prelude.{◌≡◌, ℕ, List, None, Some, if◌then◌else◌, nat_eq};
 ghost use Rattle.std.specs.Int.Count.{count_trailing_zeros};
 ghost use Rattle.sets.specs.Sets.{without, only};
 ghost use Rattle.sheet.specs.Dealing.{Sound, blank, fault, answer, left, sheet};
@@ -14,6 +14,13 @@ pub mod refusal;
 use dealt::Dealt;
 use dispenser::{Dispenser, Lane, OpenSets};
 pub use refusal::DealRefusal;
+
+// A tag, and the lane that it is dealt to.
+#[derive(Clone, Copy, PartialEq, Eq, Debug)]
+pub struct Dealing {
+    pub tag: u8,
+    pub lane: u8,
+}
 
 // A sheet, which takes no more tags.
 #[derive(Drop)]
@@ -40,14 +47,13 @@ impl Deal {
         Deal { sheet }
     }
 
-    // Gives the tag to the lane, if there are such a tag and lane and the tag has none yet. A struct of the two numbers is no
-    // plainer: it would be made for this call alone, and taken apart by the tests that come first.
-    pub fn deal(&mut self, tag: u8, lane: u8) -> Result<(), DealRefusal>
-        ensures answer { result ≡ answer (fault self.old.sheet.dealt tag lane) }
-        ensures left { self.new.sheet.dealt ≡ left self.old.sheet.dealt tag lane (fault self.old.sheet.dealt tag lane) }
+    // Gives the tag to the lane, if there are such a tag and lane and the tag has none yet.
+    pub fn deal(&mut self, dealing: Dealing) -> Result<(), DealRefusal>
+        ensures answer { result ≡ answer (fault self.old.sheet.dealt dealing.tag dealing.lane) }
+        ensures left { self.new.sheet.dealt ≡ left self.old.sheet.dealt dealing.tag dealing.lane (fault self.old.sheet.dealt dealing.tag dealing.lane) }
     {
-        let lane = self.sheet.dealt.check(tag, lane)?;
-        self.sheet.dealt.place(tag, lane);
+        let lane = self.sheet.dealt.check(dealing)?;
+        self.sheet.dealt.place(dealing.tag, lane);
         Ok(())
     }
 
@@ -65,12 +71,9 @@ impl Dispenser for Sheet {
 
     #[tactic(auto, using(crate::specs::Lists::tags_empty))]
     fn draw(&mut self, lane: u8) -> Option<u8> {
-        let at = Lane::new(lane)?.index();
+        let at = usize::from(Lane::new(lane)?);
         let set = self.dealt.lanes[at];
-        if set == 0 {
-            return None;
-        }
-        let tag = lowest(set);
+        let tag = lowest(set)?;
         self.dealt.lanes[at] = cleared(set, tag);
         Some(tag)
     }
@@ -83,11 +86,16 @@ impl Dispenser for Sheet {
     }
 }
 
-// At most 64, so that the cast loses nothing; `try_from` is no plainer, since its error could not come.
-fn lowest(set: u64) -> u8
-    ensures { result ≡ count_trailing_zeros 64 set }
+// The lowest tag of the set. It is at most 63, so the cast loses nothing; `try_from` is no plainer, since its error could
+// not come.
+fn lowest(set: u64) -> Option<u8>
+    ensures { result ≡ (if nat_eq set 0 then None else Some (count_trailing_zeros 64 set)) }
 {
-    set.trailing_zeros() as u8
+    if set == 0 {
+        None
+    } else {
+        Some(set.trailing_zeros() as u8)
+    }
 }
 
 fn cleared(set: u64, tag: u8) -> u64

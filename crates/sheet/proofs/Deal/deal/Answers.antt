@@ -9,6 +9,6 @@ pub invariant_of-self : goal.invariant_of-self
 invariant_of-self c =
     let d = c.args.self.now.sheet.dealt in
     let ok = c.in_ok-lane.ensures.ok in
-    let fine = checked d c.args.tag c.args.lane ok.1 in
-    let e = c.place.ensures ∙ ap (placed d c.args.tag) ok.0 in
-    record { sound = ∥∥₁_map c.args.self.now.sheet.sound (λ s. subst (λ (x : Dealt). Sound x) (sym e) (placed_sound d c.args.tag c.args.lane s fine)) }
+    let fine = checked d c.args.dealing.tag c.args.dealing.lane ok.1 in
+    let e = c.place.ensures ∙ ap (placed d c.args.dealing.tag) ok.0 in
+    record { sound = ∥∥₁_map c.args.self.now.sheet.sound (λ s. subst (λ (x : Dealt). Sound x) (sym e) (placed_sound d c.args.dealing.tag c.args.dealing.lane s fine)) }

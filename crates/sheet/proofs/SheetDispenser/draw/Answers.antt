@@ -1,8 +1,7 @@
-use Rattle.std.proofs.Common.{◌≡◌, ℕ, ◌^◌, ◌<◌, ◌≤◌, true, length, get_or, Some, sym, ap, ◌∙◌, arith, rules}
+use Rattle.std.proofs.Common.{◌≡◌, ℕ, ◌^◌, ◌<◌, ◌≤◌, true, length, get_or, sym, ap, ◌∙◌, arith, rules}
 use mathlib.Core.Logic.{∥∥₁_map}
-use lib.Count.{count_trailing_zeros}
 use Rattle.std.proofs.lemmas.Bool.{false≢true}
-use Rattle.sets.specs.Sets.{has, without, only}
+use Rattle.sets.specs.Sets.{has}
 use Rattle.dispenser.specs.Meaning.{first, drawn}
 use Rattle.dispenser.specs.Lanes.{draw_empty, past_empty}
 use Rattle.sheet.specs.Dealing.{sheet}
@@ -22,21 +21,20 @@ returns-in_err-new c =
 pub invariant_of-self : goal.invariant_of-self
 invariant_of-self c =
     let s = c.args.self.now in
-    let set = get_or s.dealt.lanes c.index-at.result 0 in
-    let part : (t : ℕ) → has t c.cleared.result ≡ true → has t set ≡ true = λ t h. cleared_part set c.lowest-tag.result t (ap (has t) (sym c.cleared.ensures) ∙ h) in
-    record { sound = ∥∥₁_map s.sound (less_sound s.dealt c.index-at.result c.cleared.result c.index-at.ensures.in_range part) }
+    let set = get_or s.dealt.lanes c.from-at.result 0 in
+    let part : (t : ℕ) → has t c.cleared.result ≡ true → has t set ≡ true = λ t h. cleared_part set c.in_ok-tag.tag t (ap (has t) (sym c.cleared.ensures) ∙ h) in
+    record { sound = ∥∥₁_map s.sound (less_sound s.dealt c.from-at.result c.cleared.result c.from-at.ensures.0 part) }
 
 pub returns : goal.returns
 returns c =
     let d = c.args.self.now.dealt in
-    let k = c.index-at.result in
+    let k = c.from-at.result in
     let set = get_or d.lanes k 0 in
     let l : k < length d.lanes = search rules in
     let h : set < 2 ^ 64 = search rules in
-    let r = draw_lowest d k l h c.if-set-eq0.false in
-    let e : c.cleared.result ≡ without set (only (count_trailing_zeros 64 set)) = c.cleared.ensures ∙ ap (λ z. without set (only z)) c.lowest-tag.ensures in
-    let lane : k ≡ c.args.lane = c.index-at.ensures.same ∙ c.in_ok-new.ensures.same in
+    let r = draw_lowest d k c.in_ok-tag.tag l h c.in_ok-tag.ensures in
+    let lane : k ≡ c.args.lane = c.from-at.ensures.1 ∙ c.in_ok-new.ensures.same in
     record {
-      answer = ap Some c.lowest-tag.ensures ∙ r.answer ∙ ap (λ j. first ((sheet d).lane j)) lane;
-      left = ap (λ x. sheet (with_lane d k x)) e ∙ r.left ∙ ap (drawn (sheet d)) lane;
+      answer = r.answer ∙ ap (λ j. first ((sheet d).lane j)) lane;
+      left = ap (λ x. sheet (with_lane d k x)) c.cleared.ensures ∙ r.left ∙ ap (drawn (sheet d)) lane;
     }
