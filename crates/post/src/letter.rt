@@ -17,7 +17,7 @@ pub struct Letter<'a> {
 }
 
 // A letter that was taken; its body lies at the front of the buffer.
-// A slice in place of the length would lend the buffer out, and no clause could say what its bytes are after the call.
+// A slice in place of the length is no plainer: it would lend the buffer out, and no plain clause could then say its bytes.
 #[derive(Clone, Copy, PartialEq, Eq, Debug)]
 pub struct Taken {
     pub sets: LetterSets,
