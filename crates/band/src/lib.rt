@@ -9,12 +9,15 @@ mod cells;
 
 use post::{Lent, Memory, MemoryPost, Place, Record};
 
-// A post over the first 50,176 of some bytes: 1,024 places of 49.
+// A post over the first 50,176 of some bytes, 1,024 places of 49: `Band::new(Bytes(LentBytes::new(&mut bytes)))`. They come
+// back by `band.into_memory().0.into_slice()`.
 pub type Band<'a> = MemoryPost<Bytes<'a>>;
 
+// What a band is lent.
 pub type LentBytes<'a> = Lent<'a, u8, 50176>;
 
-// Lent bytes, as memory of a post.
+// Lent bytes, as memory of a post. Band and rack each wrap what is lent, and no form is plainer: an impl of another crate's
+// trait must name a type of its own crate.
 #[derive(Drop)]
 pub struct Bytes<'a>(pub LentBytes<'a>);
 

@@ -12,6 +12,7 @@ pub enum Choice {
 }
 
 impl Choice {
+    // What a table calls it.
     pub fn name(self) -> &'static str
         ensures { result.now ≡ choice_text (code self) }
     {

@@ -5,7 +5,8 @@ ghost use Rattle.dispenser.specs.Choices.{code};
 use crate::Choice;
 use std::marker::Model;
 
-// post's `Place` is alike, a number with a bound and a model: no crate below both is one where a common type would belong.
+// A number below 48; clauses see it. The post's `Place` is alike and stays apart, which is plainer: no crate below both is one
+// where a common type belongs.
 #[derive(Clone, Copy, PartialEq, Eq, Debug)]
 pub struct Lane {
     number: u8,
@@ -53,7 +54,7 @@ impl Lane {
     }
 }
 
-// The lane's place in a list of all lanes.
+// The lane's number, as an index.
 impl From<Lane> for usize {
     ghost from_gives = { λ lane n. (n < 48) × (n ≡ lane) };
 

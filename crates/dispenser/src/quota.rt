@@ -75,12 +75,12 @@ impl<D: Dispenser> Dispenser for Quota<D> {
         ensures left { cut (D.meaning self.new.below) self.new.allowance.left ≡ drawn (cut (D.meaning self.old.below) self.old.allowance.left) lane }
         ensures below { D.meaning self.new.below ≡ passed_on (D.meaning self.old.below) self.old.allowance.left lane }
     {
-        let place = Lane::new(lane)?;
-        if self.allowance.of(place) == 0 {
+        let known = Lane::new(lane)?;
+        if self.allowance.of(known) == 0 {
             return None;
         }
         let tag = self.below.draw(lane)?;
-        self.allowance.spend(place);
+        self.allowance.spend(known);
         Some(tag)
     }
 

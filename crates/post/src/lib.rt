@@ -5,12 +5,12 @@ ghost use Rattle.std.specs.Prelude.{◌≡◌, length};
 ghost use Rattle.post.specs.Queues.{Queues, Lawful, room, kept_or_full, posted, reached, oldest, written, removed};
 
 pub mod fault;
-pub mod lent;
-pub mod letter;
+mod lent;
+mod letter;
 pub mod lines;
-pub mod memory;
-pub mod pair;
-pub mod record;
+mod memory;
+mod pair;
+mod record;
 
 pub use fault::PostFault;
 pub use lent::Lent;

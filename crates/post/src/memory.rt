@@ -17,9 +17,11 @@ pub trait Memory {
 
     ghost fixed: { Self → Fixed };
 
+    // The record of the letter in that place.
     fn load(&self, place: Place) -> Record
         ensures { letter_in result ≡ letters self.now place };
 
+    // That place, and no other, gets the record's letter.
     fn store(&mut self, place: Place, written: Record)
         ensures letters { letters self.new ≡ upd (letters self.old) place (letter_in written) }
         ensures untouched { fixed self.new ≡ fixed self.old };

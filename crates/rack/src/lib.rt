@@ -8,12 +8,15 @@ ghost use Rattle.post.specs.declared.record.Record.{Record};
 
 use post::{Lent, Memory, MemoryPost, Place, Record};
 
-// A post over the first 1,024 of some records.
+// A post over the first 1,024 of some records: `Rack::new(Records(LentRecords::new(&mut records)))`. They come back by
+// `rack.into_memory().0.into_slice()`.
 pub type Rack<'a> = MemoryPost<Records<'a>>;
 
+// What a rack is lent.
 pub type LentRecords<'a> = Lent<'a, Record, 1024>;
 
-// Lent records, as memory of a post.
+// Lent records, as memory of a post. Rack and band each wrap what is lent, and no form is plainer: an impl of another crate's
+// trait must name a type of its own crate.
 #[derive(Drop)]
 pub struct Records<'a>(pub LentRecords<'a>);
 

@@ -4,7 +4,8 @@ ghost use Rattle.std.specs.Prelude.{◌≡◌, ℕ, ◌+◌, ◌*◌, ◌%◌, �
 use std::marker::Model;
 
 // One of 1,024 places, each of which holds a letter. Clauses see its number. It is an index, since letters lie in memory of
-// a fixed size. The dispenser's `Lane` is alike, and stays apart: no crate below both would be its place.
+// a fixed size. The dispenser's `Lane` is alike and stays apart, which is plainer: no crate below both is one where a common
+// type belongs.
 #[derive(Clone, Copy, PartialEq, Eq, Debug)]
 pub struct Place {
     number: usize,
@@ -32,6 +33,7 @@ impl Place {
     }
 }
 
+// The place's number, as an index.
 impl From<Place> for usize {
     ghost from_gives = { λ place n. (n ≡ place) × (n < 1024) };
 

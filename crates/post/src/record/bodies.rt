@@ -44,7 +44,7 @@ impl Record {
         let body = self.body();
         buffer[..body.len()].copy_from_slice(body);
         Taken {
-            sets: self.sets,
+            sets: self.sets(),
             len: self.body_len(),
         }
     }
