@@ -40,7 +40,7 @@ drawn_by m n k o here other = same_meaning n (drawn m k) (λ j. go j (cases_eq j
     go j (inr d) = rw (ne_eqb j k d) (other j d)
 
 -- a draw where there is nothing to draw
-drawn_empty : (m : Meaning) (k : ℕ) → m.lane k ≡ [] → drawn m k ≡ m
+pub drawn_empty : (m : Meaning) (k : ℕ) → m.lane k ≡ [] → drawn m k ≡ m
 drawn_empty m k e = sym (drawn_by m m k refl (e ∙ sym (ap (drop 1) e)) (λ j d. refl))
 
 pub draw_empty : (m : Meaning) (k : ℕ) → m.lane k ≡ [] → record { answer : None ≡ first (m.lane k); left : m ≡ drawn m k }

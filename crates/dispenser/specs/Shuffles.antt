@@ -32,7 +32,7 @@ forward_at n h = get_or-map-range_with_len moved 0 64 n n 0 h (omega arith)
 pub backward_at : (n : ℕ) → n < 64 → slice_index backward_table n ≡ back n
 backward_at n h = get_or-map-range_with_len back 0 64 n n 0 h (omega arith)
 
-back_moved : (n : ℕ) → n < 64 → back (moved n) ≡ n
+pub back_moved : (n : ℕ) → n < 64 → back (moved n) ≡ n
 back_moved n h =
     let i = inverse n h in
     let f = forward_at n h in
@@ -41,7 +41,7 @@ back_moved n h =
 -- ---- the open sets
 
 -- a tag is in the moved set when the tag that it was is in the set
-has-moved_set : (s n : ℕ) → n < 64 → has (moved n) (moved_set s) ≡ has n s
+pub has-moved_set : (s n : ℕ) → n < 64 → has (moved n) (moved_set s) ≡ has n s
 has-moved_set s n h =
     has-those_below (moved n) (λ t. has (back t) s) 64 ∙ rw (lt-ltb (moved n) 64 (omega arith)) (ap (λ t. has t s) (back_moved n h))
 

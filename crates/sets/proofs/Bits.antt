@@ -10,7 +10,7 @@ use Rattle.sets.specs.Sets.{has, without, within, only, those_below, Laws}
 
 -- ---- each operation at one tag
 
-has-bit_and : (t a b : ℕ) → has t (bit_and a b) ≡ (has t a && has t b)
+pub has-bit_and : (t a b : ℕ) → has t (bit_and a b) ≡ (has t a && has t b)
 unfolding has
 has-bit_and t a b = let e = bit_at_and a b t in let p = bit_at-lt a t in let q = bit_at-lt b t in grind (arith, nat_tests)
 
@@ -36,7 +36,7 @@ has_past n t s h l = rw (bit_at_above s n t h l)
 pub has_zero : (t : ℕ) → has t 0 ≡ false
 has_zero t = has_past 0 t 0 (omega arith) (omega arith)
 
-has_power : (t u : ℕ) → has t (2 ^ u) ≡ eqb t u
+pub has_power : (t u : ℕ) → has t (2 ^ u) ≡ eqb t u
 unfolding has
 has_power t u = go (cases_eq t u)
   where
@@ -73,7 +73,7 @@ same a b f = same_from_bits a b (λ t. digit (bit_at a t) (bit_at b t) (bit_at-l
     digit : (x y : ℕ) → x < 2 → y < 2 → eqb x 1 ≡ eqb y 1 → x ≡ y
     digit x y p q e = grind (arith, nat_tests)
 
-part_has : (t a b : ℕ) → within a b ≡ true → has t a ≡ true → has t b ≡ true
+pub part_has : (t a b : ℕ) → within a b ≡ true → has t a ≡ true → has t b ≡ true
 unfolding within
 part_has t a b h p =
     let e : has t a ≡ (has t a && has t b) = ap (has t) (sym (eqb-true (bit_and a b) a h)) ∙ has-bit_and t a b in

@@ -3,7 +3,7 @@ use Rattle.std.proofs.Common.{◌≡◌, ℕ, zero, suc, ◌+◌, ◌*◌, ◌/�
 use native.Mathlib.Nat.{one-le-pow, pow-succ'}
 use lib.Arith.{mod-mul}
 use Rattle.std.proofs.lemmas.List.FromFn.{fill_by_all}
-use Rattle.sets.specs.Bytes.{in_bytes, value_from, value}
+use Rattle.sets.specs.Bytes.{in_bytes, value_from, value, by_places}
 
 -- the bytes of n give what of n they can hold, whatever they follow
 follow : (k n a : ℕ) → value_from a (in_bytes k n) ≡ a * 256 ^ k + n % 256 ^ k
@@ -17,11 +17,6 @@ follow (suc k) n a =
 
 pub read_back : (k n : ℕ) → n < 256 ^ k → value (in_bytes k n) ≡ n
 read_back k n h = follow k n 0 ∙ omega (arith, mod-eq_of_lt h)
-
--- eight bytes, each by its place
-abbrev by_places : List ℕ → ℕ
-by_places bs =
-    get_or bs 0 0 * 256 ^ 7 + get_or bs 1 0 * 256 ^ 6 + get_or bs 2 0 * 256 ^ 5 + get_or bs 3 0 * 256 ^ 4 + get_or bs 4 0 * 256 ^ 3 + get_or bs 5 0 * 256 ^ 2 + get_or bs 6 0 * 256 + get_or bs 7 0
 
 pub eight : (bs : List ℕ) → length bs ≡ 8 → by_places bs ≡ value bs
 eight bs l = sym (ap value (fill_by_all (λ k. get_or bs k 0) bs 8 0 l (λ k h. refl)) ∙ omega arith)
