@@ -1,9 +1,10 @@
--- Runs of draws: the two laws. Assumes nothing.
-use Rattle.std.proofs.Common.{◌≡◌, ℕ, zero, suc, ◌+◌, Bool, true, false, cond, eqb, List, [], ◌∷◌, drop, Some, sym, refl, ap, ◌∙◌, zero-add, arith}
+-- Runs of draws: the two laws, and one turn of a loop. Assumes nothing.
+use Rattle.std.proofs.Common.{◌≡◌, ℕ, zero, suc, ◌+◌, ◌<◌, Bool, true, false, cond, eqb, List, [], ◌∷◌, ◌++◌, length, get_or, take, drop, set, Some, sym, refl, ap, ◌∙◌, ap₂, zero-add, arith}
 use Rattle.std.specs.List.{slice_get, filter}
+use Rattle.std.proofs.lemmas.List.{append_assoc, drop-set-lt, drop_more, take_more_set}
 use Rattle.std.proofs.lemmas.Bool.{eq-eqb, ne_eqb, false≢true}
 use Rattle.dispenser.specs.Meaning.{Meaning, Lawful, Stands, first, drawn}
-use Rattle.dispenser.specs.Draws.{answered, NeverTwice, OwnLanesOnly}
+use Rattle.dispenser.specs.Draws.{lanes_of, answered, after, NeverTwice, OwnLanesOnly}
 use Rattle.dispenser.specs.declared.draws.Draw.{Draw}
 use Rattle.std.proofs.lemmas.Option.{none-some}
 use Rattle.dispenser.specs.Lanes.{slice_get-drop, part_lawful}
@@ -86,3 +87,21 @@ mine_alone mine m (k ∷ ks) = go (mine k) refl (mine_alone mine (drawn m k) ks)
 
 pub own_lanes_only : (m : Meaning) → OwnLanesOnly m
 own_lanes_only m mine n ks ls f e = mine_alone mine m ks ∙ same_answers mine m n ks f ∙ ap (answered n) e ∙ sym (mine_alone mine n ls)
+
+-- ---- one turn of a loop over the draws
+
+-- the draw at place i is answered by r, and n is left
+pub turn : (m n : Meaning) (ds : List Draw) (i : ℕ) (d r : Draw) → i < length ds → r ≡ record { lane = (get_or ds i d).lane; tag = first (m.lane (get_or ds i d).lane) } → n ≡ drawn m (get_or ds i d).lane →
+    (take (i + 1) (set ds i r) ++ answered n (lanes_of (drop (i + 1) (set ds i r))) ≡ take i ds ++ answered m (lanes_of (drop i ds)))
+    × (after n (lanes_of (drop (i + 1) (set ds i r))) ≡ after m (lanes_of (drop i ds)))
+turn m n ds i d r l p q =
+    let k = (get_or ds i d).lane in
+    let past : drop (i + 1) (set ds i r) ≡ drop (i + 1) ds = drop-set-lt (i + 1) ds i r (omega arith) in
+    let here = drop_more ds i d l in
+    let tail = lanes_of (drop (i + 1) ds) in (
+      ap₂ ◌++◌ (take_more_set ds i r l) (ap₂ (λ o xs. answered o (lanes_of xs)) q past)
+          ∙ append_assoc (take i ds) (r ∷ []) (answered (drawn m k) tail)
+          ∙ ap (λ y. take i ds ++ (y ∷ answered (drawn m k) tail)) p
+          ∙ ap (λ xs. take i ds ++ answered m (lanes_of xs)) (sym here),
+      ap₂ (λ o xs. after o (lanes_of xs)) q past ∙ ap (λ xs. after m (lanes_of xs)) (sym here),
+    )

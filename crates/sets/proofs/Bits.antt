@@ -1,8 +1,8 @@
 -- The laws of tag sets, bit by bit. Assumes nothing.
-use Rattle.std.proofs.Common.{◌≡◌, ℕ, zero, suc, ◌^◌, ◌<◌, ◌≤◌, Bool, true, false, cond, not, ◌&&◌, ◌||◌, eqb, ltb, ◌⊎◌, sym, refl, ap, ◌∙◌, inl, inr, arith}
+use Rattle.std.proofs.Common.{◌≡◌, ℕ, zero, suc, ◌/◌, ◌^◌, ◌<◌, ◌≤◌, Bool, true, false, cond, not, ◌&&◌, ◌||◌, eqb, ltb, ◌⊎◌, sym, refl, ap, ◌∙◌, inl, inr, arith}
 use Rattle.std.specs.Int.{bit_at}
 use lib.Bits.{bit_and, bit_or}
-use Rattle.std.proofs.lemmas.Nat.Bits.{bit_at_and, bit_at_or, bit_at_xor, bit_at_above, bit_at-pow_same, bit_at-pow_other, bit_at-lt, same_from_bits}
+use Rattle.std.proofs.lemmas.Nat.Bits.{bit_at_and, bit_at_or, bit_at_xor, bit_at_above, bit_at-pow_same, bit_at-pow_other, bit_at-lt, bit_at-suc, same_from_bits}
 use Rattle.std.proofs.Math.Bool.{and-true}
 use Rattle.std.proofs.lemmas.Bool.{eqb-true, eq-eqb, ne_eqb, le-ltb, and_left, and_right, cases_eq}
 use Rattle.std.proofs.lemmas.Bool.Decides.{nat_tests}
@@ -65,6 +65,10 @@ has-those_below t f (suc n) = has-bit_or t (those_below f n) (cond (f n) (2 ^ n)
     one_more false e = rw (has_zero t) (step (f t) false (λ q. ap f q ∙ e))
 
 -- ---- a set is known by its tags
+
+pub has_half : (t s : ℕ) → has t (s / 2) ≡ has (suc t) s
+unfolding has
+has_half t s = ap (λ x. eqb x 1) (sym (bit_at-suc s t))
 
 pub same : (a b : ℕ) → ((t : ℕ) → has t a ≡ has t b) → a ≡ b
 unfolding has

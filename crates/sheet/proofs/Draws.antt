@@ -1,9 +1,6 @@
 -- A draw takes the lowest tag of a lane, and keeps a sheet sound. Assumes nothing.
 use Rattle.std.proofs.Common.{◌≡◌, ℕ, ◌^◌, ◌<◌, Bool, true, false, if◌then◌else◌, eqb, nat_eq, ◌⊎◌, ◌∷◌, length, get_or, drop, set, Some, None, sym, refl, ap, ◌∙◌, inl, inr, arith, length-set}
 use lib.Count.{count_trailing_zeros}
-use mir.Syntax.{w64}
-use Rattle.std.specs.Int.{bit_at}
-use Rattle.std.proofs.lemmas.Nat.Bits.{bit_at-trailing_zeros}
 use Rattle.std.proofs.lemmas.List.{get_or-set_same, get_or-set_other}
 use Rattle.std.proofs.Math.Bool.{and-true}
 use Rattle.std.proofs.lemmas.Bool.{and_parts, and_right, cases_eq, eq-eqb, ne_eqb, lt-ltb, false≢true}
@@ -11,11 +8,12 @@ use Rattle.std.proofs.lemmas.Option.{none-some}
 use Rattle.sets.specs.Sets.{has, without, only}
 use Rattle.sets.proofs.Bits.{has-without, has-only}
 use Rattle.dispenser.specs.Meaning.{first, drawn}
-use Rattle.dispenser.specs.Lanes.{drawn_by}
+use Rattle.dispenser.specs.Lanes.{drawn_by, draw_empty}
 use Rattle.sheet.specs.Tags.{tags}
 use Rattle.sheet.specs.Dealing.{sheet, Sound}
 use Rattle.sheet.specs.declared.dealt.Dealt.{Dealt}
-use Rattle.sheet.specs.Lists.{tags_low}
+use Rattle.sheet.specs.Lists.{tags_low, tags_empty}
+use Rattle.sheet.proofs.Zeros.{Lowest, lowest}
 
 -- the sheet with another set in a lane
 abbrev pub with_lane : Dealt → ℕ → ℕ → Dealt
@@ -46,20 +44,22 @@ cleared_part s z t h = (and_parts (has t s) _ (sym (has-without t s (only z)) �
 
 -- the lowest tag of a set stands first in its list, and the rest of the list is that of the set without it
 tags_cleared : (s : ℕ) → s < 2 ^ 64 → (s ≡ 0 → ⊥) → tags s ≡ count_trailing_zeros 64 s ∷ tags (without s (only (count_trailing_zeros 64 s)))
-unfolding has
-tags_cleared s h d = tags_low s (without s (only z)) z low.0 (ap (λ x. eqb x 1) low.1) (λ j l. ap (λ x. eqb x 1) (low.2 j l)) gone kept
+tags_cleared s h d = tags_low s (without s (only z)) z low.small low.there low.none_below gone kept
   where
     z : ℕ
     z = count_trailing_zeros 64 s
 
-    low : (z < 64) × (bit_at s z ≡ 1) × ((j : ℕ) → j < z → bit_at s j ≡ 0)
-    low = bit_at-trailing_zeros w64 s (omega arith) h
+    low : Lowest 64 s z
+    low = lowest 64 s h d
 
     gone : has z (without s (only z)) ≡ false
-    gone = has-without z s (only z) ∙ rw (has-only z z, eq-eqb z z refl, lt-ltb z 64 low.0) (and_right (has z s) false refl)
+    gone = has-without z s (only z) ∙ rw (has-only z z, eq-eqb z z refl, lt-ltb z 64 low.small) (and_right (has z s) false refl)
 
     kept : (t : ℕ) → (t ≡ z → ⊥) → has t (without s (only z)) ≡ has t s
     kept t n = has-without t s (only z) ∙ rw (has-only t z, ne_eqb t z n) (and-true (has t s))
+
+pub draw_none : (d : Dealt) (k : ℕ) → get_or d.lanes k 0 ≡ 0 → record { answer : None ≡ first ((sheet d).lane k); left : sheet d ≡ drawn (sheet d) k }
+draw_none d k e = draw_empty (sheet d) k (ap tags e ∙ tags_empty)
 
 -- a tag that is the lowest, if there is one: then there is one
 lowest_of : (s t z : ℕ) → Some z ≡ (if nat_eq s 0 then None else Some t) → (s ≡ 0 → ⊥) × (t ≡ z)

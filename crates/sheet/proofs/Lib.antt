@@ -1,3 +1,4 @@
+pub mod Zeros
 pub mod Deals
 pub mod Draws
 pub mod Homes
