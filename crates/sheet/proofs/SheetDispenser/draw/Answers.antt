@@ -1,20 +1,19 @@
-use Rattle.std.proofs.Common.{◌≡◌, ℕ, ◌^◌, ◌<◌, ◌≤◌, true, length, get_or, sym, ap, ◌∙◌, arith, rules}
+use Rattle.std.proofs.Common.{◌≡◌, ℕ, ◌^◌, ◌<◌, true, length, get_or, sym, ap, ◌∙◌, arith, rules}
 use mathlib.Core.Logic.{∥∥₁_map}
 use Rattle.std.proofs.lemmas.Bool.{false≢true}
+use Rattle.std.proofs.lemmas.List.{get_or_past}
 use Rattle.sets.specs.Sets.{has}
 use Rattle.dispenser.specs.Meaning.{first, drawn}
-use Rattle.dispenser.specs.Lanes.{draw_empty, past_empty}
 use Rattle.sheet.specs.Dealing.{sheet}
-use Rattle.sheet.specs.Laws.{lawful}
-use Rattle.sheet.proofs.Draws.{with_lane, less_sound, cleared_part, draw_lowest}
+use Rattle.sheet.proofs.Draws.{with_lane, less_sound, cleared_part, draw_none, draw_lowest}
 use Rattle.sheet.proofs.SheetDispenser.draw.Goals as goal
 
 pub returns-in_err-new : goal.returns-in_err-new
 returns-in_err-new c =
-    let s = c.args.self.now in
+    let d = c.args.self.now.dealt in
     let no : c.args.lane < 48 → ⊥ = λ l. false≢true (c.in_err-new.ensures.there.1 l) in
-    let h : 48 ≤ c.args.lane = omega (arith, no) in
-    let q = draw_empty (sheet s.dealt) c.args.lane (past_empty (sheet s.dealt) (lawful s.dealt s.sound) c.args.lane h) in
+    let size : length d.lanes ≡ 48 = search rules in
+    let q = draw_none d c.args.lane (get_or_past d.lanes c.args.lane 0 (omega (arith, no, size))) in
     record { answer = c.from_residual.ensures ∙ q.answer; left = q.left }
 
 -- the set that is stored is the lane's without its lowest tag
