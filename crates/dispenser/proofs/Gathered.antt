@@ -1,28 +1,19 @@
 -- The numbers below a bound that pass a test, put into a set one by one. Assumes nothing.
-use Rattle.std.proofs.Common.{◌≡◌, ℕ, zero, suc, ◌+◌, ◌^◌, ◌≤◌, Bool, true, false, cond, [], ◌∷◌, ◌++◌, sym, refl, ap, ◌∙◌, add-one, arith}
-use Rattle.std.specs.List.{fold, filter, range_with_len}
-use Rattle.std.specs.Int.Bits.{or_zero_r}
-use Rattle.std.proofs.lemmas.Bool.{lt-ltb, cond-true}
-use Rattle.std.proofs.lemmas.List.{map-id}
+use Rattle.std.proofs.Common.{◌≡◌, ℕ, zero, suc, ◌^◌, Bool, cond, [], ◌∷◌, map, sym, refl, ap, ◌∙◌, add-one, arith}
+use Rattle.std.specs.List.{fold, range_with_len}
 use Rattle.std.proofs.lemmas.List.Sums.{fold-append}
-use Rattle.std.proofs.lemmas.List.FromFn.{filter_of_map_range_with_len_more}
-use Rattle.sets.specs.Sets.{union, only, those_below}
+use Rattle.std.proofs.lemmas.List.FromFn.{map-range_with_len_more}
+use Rattle.sets.specs.Sets.{union, those_below}
 
--- one number more
-one_more : (f : ℕ → Bool) (n : ℕ) → filter f (range_with_len 0 (n + 1)) ≡ filter f (range_with_len 0 n) ++ cond (f n) (n ∷ []) []
-one_more f n = simp (map-id {A = ℕ}) at (filter_of_map_range_with_len_more f (λ k. k) 0 n n (omega arith))
+-- the set of the number n alone if it passes the test, and else the empty set
+abbrev pub alone : (ℕ → Bool) → ℕ → ℕ
+alone f n = cond (f n) (2 ^ n) 0
 
-pub gathered : (f : ℕ → Bool) (n : ℕ) → n ≤ 64 → fold (λ all k. union all (only k)) 0 (filter f (range_with_len 0 n)) ≡ those_below f n
-unfolding those_below only
-gathered f zero h = refl
-gathered f (suc n) h =
-    ap (λ k. fold step 0 (filter f (range_with_len 0 k))) (sym (add-one n))
-    ∙ ap (fold step 0) (one_more f n) ∙ fold-append step 0 (filter f (range_with_len 0 n)) _
-    ∙ ap (λ a. fold step a (cond (f n) (n ∷ []) [])) (gathered f n (omega arith)) ∙ last (f n)
-  where
-    step : ℕ → ℕ → ℕ
-    step all k = union all (only k)
-
-    last : (b : Bool) → fold step (those_below f n) (cond b (n ∷ []) []) ≡ union (those_below f n) (cond b (2 ^ n) 0)
-    last true = ap (union (those_below f n)) (cond-true _ (2 ^ n) 0 (lt-ltb n 64 (omega arith)))
-    last false = sym (or_zero_r (those_below f n))
+pub gathered : (f : ℕ → Bool) (n : ℕ) → fold union 0 (map (alone f) (range_with_len 0 n)) ≡ those_below f n
+unfolding those_below
+gathered f zero = refl
+gathered f (suc n) =
+    ap (λ k. fold union 0 (map (alone f) (range_with_len 0 k))) (sym (add-one n))
+    ∙ ap (fold union 0) (map-range_with_len_more (alone f) 0 n n (omega arith))
+    ∙ fold-append union 0 (map (alone f) (range_with_len 0 n)) (alone f n ∷ [])
+    ∙ ap (λ a. union a (alone f n)) (gathered f n)

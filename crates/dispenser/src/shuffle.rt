@@ -1,7 +1,8 @@
 // The shuffle: a layer over any dispenser, in which tag n becomes (5 * n + 17) mod 64.
-ghost use Rattle.std.specs.Prelude.{◌≡◌};
+ghost use Rattle.std.specs.Prelude.{◌≡◌, ◌^◌, ◌<◌, if◌then◌else◌};
+ghost use Rattle.sets.specs.Sets.{has};
 ghost use Rattle.dispenser.specs.Meaning.{first, drawn};
-ghost use Rattle.dispenser.specs.Shuffled.{moved_set, shuffled, Inverse};
+ghost use Rattle.dispenser.specs.Shuffled.{back, moved_set, shuffled, Inverse};
 ghost use Rattle.dispenser.specs.Shuffles.{shuffled_lawful};
 
 use crate::tables::{backward, forward};
@@ -61,7 +62,18 @@ pub fn tables_are_inverse()
 fn forward_set(tags: u64) -> u64
     ensures { result ≡ moved_set tags }
 {
-    (0..64)
-        .filter(|&n| sets::has(tags, backward(n)))
-        .fold(0, |all, n| sets::union(all, sets::only(n)))
+    (0..64).map(|n| forward_bit(tags, n)).fold(0, sets::union)
+}
+
+// The set of the tag n alone where its former tag is in the set, and else the empty set.
+#[tactic(auto, unfolding(sets::specs::Sets::only))]
+fn forward_bit(tags: u64, n: u8) -> u64
+    requires { n < 64 }
+    ensures { result ≡ (if has (back n) tags then 2 ^ n else 0) }
+{
+    if sets::has(tags, backward(n)) {
+        sets::only(n)
+    } else {
+        0
+    }
 }
