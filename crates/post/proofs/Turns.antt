@@ -1,8 +1,8 @@
 -- The lines of all pairs when one place is taken into use or set free. Assumes nothing.
-use Rattle.std.proofs.Common.{◌≡◌, ℕ, zero, suc, ◌+◌, ◌-◌, ◌*◌, ◌%◌, ◌<◌, ◌≤◌, true, false, cond, ltb, ◌⊎◌, List, [], ◌∷◌, ◌++◌, length, get_or, drop, set, replicate, Some, None, Option, sym, refl, ap, subst, ◌∙◌, ap₂, inl, inr, arith}
+use Rattle.std.proofs.Common.{◌≡◌, ℕ, zero, suc, ◌+◌, ◌-◌, ◌*◌, ◌%◌, ◌<◌, ◌≤◌, true, false, cond, ltb, ◌⊎◌, List, [], ◌∷◌, ◌++◌, length, get_or, drop, set, replicate, Some, None, Option, sym, refl, ap, subst, ◌∙◌, ap₂, inl, inr, arith, rules}
 use Rattle.std.specs.List.{slice_get, AllByRecursion}
-use Rattle.std.proofs.lemmas.Option.{slice_get-get_or}
-use Rattle.std.proofs.lemmas.List.{nil_from_length}
+use Rattle.std.proofs.lemmas.Option.{none-some, slice_get-get_or}
+use Rattle.std.proofs.lemmas.List.{places as element-laws, nil_from_length}
 use Rattle.std.proofs.lemmas.Bool.{cases_Bool, cases_eq, and_parts, and_from, and_right, ltb-true, le-ltb, lt-ltb}
 use Rattle.post.specs.Laws.{length-ring}
 use Rattle.post.specs.Queues.{valid, requeued}
@@ -155,14 +155,26 @@ next_free l r s h i j = go (cases_Bool (valid i j)) (cases_eq (pair i j) (pair r
 
 -- ---- where nothing waits
 
-empty_in : (x : Line) (n k p : ℕ) → x.count ≡ 0 → places_in p (slice_get (replicate n x) k) ≡ []
-empty_in x zero k p h = refl
-empty_in x (suc n) zero p h = ap (ring p x.first) h ∙ no_places p x.first
-empty_in x (suc n) (suc k) p h = empty_in x n k p h
+pub zeros : (n k : ℕ) → ◌≡◌ {A = ℕ} (get_or (replicate n 0) k 0) 0
+zeros n k = search (rules, element-laws)
 
-pub all_empty : (x : Line) → x.count ≡ 0 → spread (replicate 256 x) ≡ (λ r s. [])
-all_empty x h = λ t r s. go r s (cases_Bool (valid r s)) t
+-- no line has a letter
+pub empty_lines : (ls : List Line) → ((k : ℕ) (x : Line) → slice_get ls k ≡ Some x → x.count ≡ 0) → spread ls ≡ (λ r s. [])
+empty_lines ls h = λ t r s. go r s (cases_Bool (valid r s)) t
   where
-    go : (r s : ℕ) → (valid r s ≡ true) ⊎ (valid r s ≡ false) → spread (replicate 256 x) r s ≡ []
-    go r s (inl v) = spread_at (replicate 256 x) r s v ∙ empty_in x 256 (pair r s) (pair r s) h
-    go r s (inr v) = spread_none (replicate 256 x) r s v
+    none : (p : ℕ) (o : Option Line) → ((x : Line) → o ≡ Some x → x.count ≡ 0) → places_in p o ≡ []
+    none p None g = refl
+    none p (Some x) g = ap (ring p x.first) (g x refl) ∙ no_places p x.first
+
+    go : (r s : ℕ) → (valid r s ≡ true) ⊎ (valid r s ≡ false) → spread ls r s ≡ []
+    go r s (inl v) = spread_at ls r s v ∙ none (pair r s) (slice_get ls (pair r s)) (h (pair r s))
+    go r s (inr v) = spread_none ls r s v
+
+-- all lines are the same
+pub all_empty : (x : Line) → x.count ≡ 0 → spread (replicate 256 x) ≡ (λ r s. [])
+all_empty x h = empty_lines (replicate 256 x) (same 256)
+  where
+    same : (n k : ℕ) (y : Line) → slice_get (replicate n x) k ≡ Some y → y.count ≡ 0
+    same zero k y e = absurd (none-some y e)
+    same (suc n) zero y e = let q : x ≡ y = cc in ap (λ z. z.count) (sym q) ∙ h
+    same (suc n) (suc k) y e = same n k y e

@@ -1,6 +1,6 @@
 // A post whose letters lie in memory, of whatever kind.
 ghost use Rattle.std.specs.Prelude.{◌≡◌, ℕ, ◌≤◌, [], length};
-ghost use Rattle.post.specs.Queues.{Letter, upd};
+ghost use Rattle.post.specs.Queues.{Letter, upd, room, kept_or_full, posted, reached, oldest, written, removed};
 ghost use Rattle.post.specs.Places.{places, lying};
 ghost use Rattle.post.specs.Records.{letter_in};
 ghost use Rattle.post.specs.Runs.{Faithful};
@@ -27,6 +27,42 @@ pub trait Memory {
         ensures untouched { fixed self.new ≡ fixed self.old };
 
     ghost short: { (x : Self) (k : ℕ) → length (letters x k).body ≤ 16 };
+}
+
+// Puts a letter into memory whose places the lines tell.
+pub fn put_in<M: Memory>(
+    memory: &mut M,
+    lines: &mut Lines,
+    pair: Pair,
+    letter: Letter<'_>,
+) -> Result<(), Full>
+    ensures answer { result ≡ kept_or_full (room (lying (M.letters memory.old) (places lines.old)) pair.receiver pair.sender letter.entry.body.now) }
+    ensures left { lying (M.letters memory.new) (places lines.new) ≡ posted (lying (M.letters memory.old) (places lines.old)) pair.receiver pair.sender (record { sets = letter.entry.sets; body = letter.entry.body.now }) }
+    ensures untouched { M.fixed memory.new ≡ M.fixed memory.old }
+{
+    let record = Record::try_from(letter)?;
+    let place = lines.add(pair).ok_or(Full)?;
+    memory.store(place, record);
+    Ok(())
+}
+
+// Takes the oldest letter of a pair out of memory whose places the lines tell.
+#[tactic(auto, using(crate::proofs::Posts::take_left))]
+pub fn take_from<M: Memory>(
+    memory: &M,
+    lines: &mut Lines,
+    pair: Pair,
+    buffer: &mut [u8],
+) -> Option<Taken>
+    ensures answer { result ≡ oldest (reached (lying (M.letters memory.now) (places lines.old)) pair.receiver pair.sender (length buffer.old)) }
+    ensures left { lying (M.letters memory.now) (places lines.new) ≡ removed (lying (M.letters memory.now) (places lines.old)) pair.receiver pair.sender (length buffer.old) }
+    ensures body { buffer.new ≡ written (reached (lying (M.letters memory.now) (places lines.old)) pair.receiver pair.sender (length buffer.old)) buffer.old }
+{
+    if buffer.len() < 16 {
+        return None;
+    }
+    let place = lines.remove(pair)?;
+    Some(memory.load(place).read(buffer))
 }
 
 // A post over one memory.
@@ -66,19 +102,11 @@ impl<M: Memory> Post for MemoryPost<M> {
     ghost lawful = { λ p. lawful (M.letters p.memory) p.lines (M.short p.memory) };
 
     fn put(&mut self, pair: Pair, letter: Letter<'_>) -> Result<(), Full> {
-        let record = Record::try_from(letter)?;
-        let place = self.lines.add(pair).ok_or(Full)?;
-        self.memory.store(place, record);
-        Ok(())
+        put_in(&mut self.memory, &mut self.lines, pair, letter)
     }
 
-    #[tactic(auto, using(crate::proofs::Posts::take_left))]
     fn take(&mut self, pair: Pair, buffer: &mut [u8]) -> Option<Taken> {
-        if buffer.len() < 16 {
-            return None;
-        }
-        let place = self.lines.remove(pair)?;
-        Some(self.memory.load(place).read(buffer))
+        take_from(&self.memory, &mut self.lines, pair, buffer)
     }
 
     #[tactic(auto, using(crate::specs::Laws::counted))]

@@ -2,4 +2,6 @@
 #![tactic(auto)]
 
 #[cfg(test)]
+mod lender;
+#[cfg(test)]
 mod table;

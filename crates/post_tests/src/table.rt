@@ -1,7 +1,7 @@
 // What a post answers to a list of operations, for a rack and a band alike; and memory of three sizes.
-use band::{Band, Bytes, LentBytes};
+use band::Band;
 use post::{Full, Letter, LetterSets, Pair, Post, PostFault, Record, Taken};
-use rack::{LentRecords, Rack, Records};
+use rack::Rack;
 use std::fmt::Debug;
 use std::test::Fail;
 
@@ -138,26 +138,23 @@ fn follow_all<P: Post>(post: &mut P) -> Result<(), Fail> {
 #[test]
 fn rack_follows_the_table(rt: HostRuntime) -> Result<(), Fail> {
     let mut memory = vec![in rt.alloc(); Record::blank(); 1024]?;
-    LentRecords::check(&memory)?;
-    follow_all(&mut Rack::new(Records(LentRecords::new(&mut memory))))
+    Rack::check(&memory)?;
+    follow_all(&mut Rack::new(&mut memory))
 }
 
 #[test]
 fn band_follows_the_table(rt: HostRuntime) -> Result<(), Fail> {
     let mut memory = vec![in rt.alloc(); 255; 50176]?;
-    LentBytes::check(&memory)?;
-    follow_all(&mut Band::new(Bytes(LentBytes::new(&mut memory))))
+    Band::check(&memory)?;
+    follow_all(&mut Band::new(&mut memory))
 }
 
 #[test]
 fn one_place_less_is_refused(rt: HostRuntime) -> Result<(), Fail> {
     let records = vec![in rt.alloc(); Record::blank(); 1023]?;
-    assert_eq!(rt;
-        LentRecords::check(&records),
-        Err(PostFault::TooLittleMemory)
-    );
+    assert_eq!(rt; Rack::check(&records), Err(PostFault::TooLittleMemory));
     let bytes = vec![in rt.alloc(); 0u8; 50175]?;
-    assert_eq!(rt; LentBytes::check(&bytes), Err(PostFault::TooLittleMemory));
+    assert_eq!(rt; Band::check(&bytes), Err(PostFault::TooLittleMemory));
     assert_eq!(rt; u8::from(PostFault::TooLittleMemory), 1);
     Ok(())
 }
@@ -167,10 +164,10 @@ fn one_place_less_is_refused(rt: HostRuntime) -> Result<(), Fail> {
 fn rack_leaves_what_lies_behind(rt: HostRuntime) -> Result<(), Fail> {
     let mut memory = vec![in rt.alloc(); Record::blank(); 1028]?;
     assert!(rt; memory.len() == 1028);
-    follow_all(&mut Rack::new(Records(LentRecords::new(&mut memory[4..1028]))))?;
-    let mut rack = Rack::new(Records(LentRecords::new(&mut memory)));
+    follow_all(&mut Rack::new(&mut memory[4..1028]))?;
+    let mut rack = Rack::new(&mut memory);
     follow_all(&mut rack)?;
-    let memory = rack.into_memory().0.into_slice();
+    let memory = rack.into_memory();
     assert!(rt; memory.len() == 1028);
     // this rack's last letter, and behind it the first and the last of the other's last pair
     assert_eq!(rt; memory[1023].sets(), sets_of(23));
@@ -182,10 +179,10 @@ fn rack_leaves_what_lies_behind(rt: HostRuntime) -> Result<(), Fail> {
 #[test]
 fn band_leaves_what_lies_behind(rt: HostRuntime) -> Result<(), Fail> {
     let mut memory = vec![in rt.alloc(); 165u8; 50178]?;
-    LentBytes::check(&memory)?;
-    let mut band = Band::new(Bytes(LentBytes::new(&mut memory)));
+    Band::check(&memory)?;
+    let mut band = Band::new(&mut memory);
     follow_all(&mut band)?;
-    let memory = band.into_memory().0.into_slice();
+    let memory = band.into_memory();
     assert!(rt; memory.len() == 50178);
     // the last byte of the last letter's integrity set
     assert_eq!(rt; memory[50175], 255 - 23);

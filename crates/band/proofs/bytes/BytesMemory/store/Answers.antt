@@ -2,14 +2,14 @@ use Rattle.std.proofs.Common.{◌≡◌, ◌+◌, ◌*◌, ◌≤◌, length, dr
 use Rattle.post.specs.Queues.{upd}
 use Rattle.band.specs.Banded.{unpacked, banded}
 use Rattle.band.proofs.Storing.{behind, one_letter}
-use Rattle.band.proofs.BytesMemory.store.Goals as goal
+use Rattle.band.proofs.bytes.BytesMemory.store.Goals as goal
 
 pub returns : goal.returns
 returns c =
-    let b = c.args.self.now.0.items.now in
+    let b = c.args.self.now.items.now in
     let k = c.args.place in
     let x = c.pack.result in
-    let long : k * 49 + 49 ≤ length b = omega (arith, c.args.self.now.0.enough) in
+    let long : k * 49 + 49 ≤ length b = omega (arith, c.args.self.now.enough) in
     let whole : length x ≡ 49 = search rules in
     record {
       letters = ap banded c.write.ensures.bytes ∙ one_letter b x k long whole ∙ ap (upd (banded b) k) (ap unpacked c.pack.ensures.bytes ∙ c.pack.ensures.back);
