@@ -90,7 +90,7 @@ own_lanes_only m mine n ks ls f e = mine_alone mine m ks ∙ same_answers mine m
 
 -- ---- one turn of a loop over the draws
 
--- the draw at place i is answered by r, and n is left
+-- the draw at place i is answered by r, and n is left. The check finds this for `draw_all` by itself; another loop may want it.
 pub turn : (m n : Meaning) (ds : List Draw) (i : ℕ) (d r : Draw) → i < length ds → r ≡ record { lane = (get_or ds i d).lane; tag = first (m.lane (get_or ds i d).lane) } → n ≡ drawn m (get_or ds i d).lane →
     (take (i + 1) (set ds i r) ++ answered n (lanes_of (drop (i + 1) (set ds i r))) ≡ take i ds ++ answered m (lanes_of (drop i ds)))
     × (after n (lanes_of (drop (i + 1) (set ds i r))) ≡ after m (lanes_of (drop i ds)))

@@ -46,7 +46,7 @@ impl Lane {
     pub fn choice(self) -> Choice
         ensures { code result ≡ self % 3 }
     {
-        // With `_` for 2, a draw on a roll takes a quarter more instructions.
+        // An arm for 2: with `_` in its place a draw on a roll takes a quarter more instructions.
         match self.number % 3 {
             0 => Choice::Kept,
             1 => Choice::Taking,

@@ -38,7 +38,8 @@ module _ (at : ℕ → Letter) (l : Lines) where
       ∙ ap (lying (upd at k m)) (e ∙ cond-true _ _ _ g.0) ∙ rw g.1 (one_more at (places l) r s (next l r s) m (next_free l r s g.0))
       ∙ sym (cond-true _ _ _ (roomy r s m f.1 ∙ g.0))
 
-  -- what a put owes: the answer, and the queues
+  -- what a put owes: the answer, and the queues. The check finds the answer of `put_in` by itself, and needs `put_left` alone; a post of
+  -- another make may want the whole.
   pub record Puts (r s : ℕ) (m : Letter) (given : Result (Unit {0}) Full) (after : Queues) : Type 0 where
     pub answer : given ≡ kept_or_full (room queues r s m.body)
     pub left : after ≡ posted queues r s m
@@ -62,7 +63,7 @@ module _ (at : ℕ → Letter) (l : Lines) where
   pub take_left : (r s n : ℕ) (ps : ℕ → ℕ → List ℕ) → ps ≡ freed l r s → 16 ≤ n → lying at ps ≡ removed queues r s n
   take_left r s n ps f h = ap (lying at) f ∙ one_less at (places l) r s ∙ sym (cond-true _ _ _ (le-leb 16 n h))
 
-  -- what a take owes: the answer, the buffer and the queues
+  -- what a take owes: the answer, the buffer and the queues, likewise
   pub record Takes (r s : ℕ) (buffer : List ℕ) (found : List Letter) (after : Queues) : Type 0 where
     pub answer : oldest found ≡ oldest (reached queues r s (length buffer))
     pub body : written found buffer ≡ written (reached queues r s (length buffer)) buffer

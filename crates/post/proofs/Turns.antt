@@ -155,6 +155,7 @@ next_free l r s h i j = go (cases_Bool (valid i j)) (cases_eq (pair i j) (pair r
 
 -- ---- where nothing waits
 
+-- stated for lines that are told by two lists of numbers
 pub zeros : (n k : ℕ) → ◌≡◌ {A = ℕ} (get_or (replicate n 0) k 0) 0
 zeros n k = search (rules, element-laws)
 

@@ -16,6 +16,6 @@ recorded_set xs k x h = λ i j. go j (cases_eq j k) i
     go j (inl e) = ap (λ n. letter_at (slice_get (set xs k x) n)) e ∙ ap letter_at (slice_get-set_here xs k x h) ∙ sym (cond-true _ (letter_in x) (recorded xs j) (eq-eqb j k e))
     go j (inr n) = ap letter_at (slice_get-set_there xs k j x n) ∙ sym (cond-false _ (letter_in x) (recorded xs j) (ne_eqb j k n))
 
--- the letter of a record that is read
+-- the letter of a record that is read, in a list of any length; the check finds it for a rack by itself
 pub recorded_at : (xs : List Record) (k : ℕ) (d : Record) → k < length xs → letter_in (get_or xs k d) ≡ recorded xs k
 recorded_at xs k d h = sym (ap letter_at (slice_get-get_or xs k d h))
