@@ -1,4 +1,5 @@
-// Lent bytes, as memory of a post.
+// Lent bytes, as memory of a post. Band and rack each wrap what is lent, and no form is plainer: an impl of another crate's
+// trait must name a type of its own crate.
 ghost use Rattle.std.specs.Prelude.{◌≡◌, ℕ, ◌*◌, ◌≤◌, List, length, drop};
 ghost use Rattle.band.specs.Banded.{cell, stored, banded};
 ghost use Rattle.band.specs.Short.{short};

@@ -16,8 +16,9 @@ mod cells;
 use bytes::Bytes;
 use post::{Full, Letter, Lines, Pair, Post, PostFault, Taken};
 
-// A post over the first 50,176 bytes of the memory, 1,024 places of 49. It holds the slice itself, and is no `MemoryPost`: of a slice that
-// lies deeper in a struct, whoever lent it learns nothing but the length when the post is let go.
+// A post over the first 50,176 bytes of the memory, 1,024 places of 49.
+// It holds the slice itself, and is no `MemoryPost`: of a slice that lies deeper in a struct, whoever lent it learns nothing
+// but the length when the post is let go.
 #[derive(Drop)]
 pub struct Band<'a> {
     bytes: &'a mut [u8],
@@ -34,6 +35,7 @@ impl<'a> Band<'a> {
     }
 
     // A band in which no letter waits. Whatever is then put and taken, no letter is lost and no two pairs are mixed.
+    // Asking comes first, and may be refused; making cannot fail then.
     #[tactic(auto, using(post::proofs::Runs::faithful))]
     pub fn new(bytes: &'a mut [u8]) -> Band<'a>
         requires { 50176 ≤ length bytes.old }

@@ -16,8 +16,9 @@ mod records;
 use post::{Full, Letter, Lines, Pair, Post, PostFault, Record, Taken};
 use records::Records;
 
-// A post over the first 1,024 records of the memory. It holds the slice itself, and is no `MemoryPost`: of a slice that
-// lies deeper in a struct, whoever lent it learns nothing but the length when the post is let go.
+// A post over the first 1,024 records of the memory.
+// It holds the slice itself, and is no `MemoryPost`: of a slice that lies deeper in a struct, whoever lent it learns nothing
+// but the length when the post is let go.
 #[derive(Drop)]
 pub struct Rack<'a> {
     records: &'a mut [Record],
@@ -34,6 +35,7 @@ impl<'a> Rack<'a> {
     }
 
     // A rack in which no letter waits. Whatever is then put and taken, no letter is lost and no two pairs are mixed.
+    // Asking comes first, and may be refused; making cannot fail then.
     #[tactic(auto, using(post::proofs::Runs::faithful))]
     pub fn new(records: &'a mut [Record]) -> Rack<'a>
         requires { 1024 ≤ length records.old }

@@ -1,4 +1,5 @@
-// Lent records, as memory of a post.
+// Lent records, as memory of a post. Rack and band each wrap what is lent, and no form is plainer: an impl of another crate's
+// trait must name a type of its own crate.
 ghost use Rattle.std.specs.Prelude.{◌≡◌, ℕ, ◌≤◌, List, length, drop, slice_set};
 ghost use Rattle.rack.specs.Racked.{recorded};
 ghost use Rattle.rack.specs.Short.{short};
