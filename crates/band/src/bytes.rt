@@ -5,12 +5,16 @@ ghost use Rattle.band.specs.Banded.{cell, stored, banded};
 ghost use Rattle.band.specs.Short.{short};
 
 use crate::cells;
-use post::{Memory, Place, Record};
+use post::{Lent, Memory, Place, Record};
+
+// What a caller who wants a `MemoryPost` over such memory makes it of.
+pub type LentBytes<'a> = Lent<'a, u8, 50176>;
 
 // At least 50,176 bytes.
 #[derive(Drop)]
-pub(crate) struct Bytes<'a> {
-    items: &'a mut [u8],
+pub struct Bytes<'a> {
+    // public, so that a caller who has made a post of the memory gets the slice back
+    pub items: &'a mut [u8],
     ghost enough: { 50176 ≤ length items.now },
 }
 
@@ -43,6 +47,15 @@ fn start_of(place: Place) -> usize
     ensures { result ≡ place * 49 }
 {
     usize::from(place) * 49
+}
+
+// What is lent is known to suffice, so this cannot fail.
+impl<'a> From<LentBytes<'a>> for Bytes<'a> {
+    ghost from_gives = { λ lent made. made.items ≡ lent.items };
+
+    fn from(lent: LentBytes<'a>) -> Bytes<'a> {
+        Bytes { items: lent.items }
+    }
 }
 
 impl<'a> Memory for Bytes<'a> {

@@ -13,7 +13,7 @@ ghost use Rattle.band.specs.Short.{short};
 mod bytes;
 mod cells;
 
-use bytes::Bytes;
+pub use bytes::{Bytes, LentBytes};
 use post::{Full, Letter, Lines, Pair, Post, PostFault, Taken};
 
 // A post over the first 50,176 bytes of the memory, 1,024 places of 49.

@@ -5,6 +5,7 @@ ghost use Rattle.std.specs.Prelude.{◌≡◌, length};
 ghost use Rattle.post.specs.Queues.{Queues, Lawful, room, kept_or_full, posted, reached, oldest, written, removed};
 
 pub mod fault;
+mod lent;
 mod letter;
 pub mod lines;
 mod memory;
@@ -12,6 +13,7 @@ mod pair;
 mod record;
 
 pub use fault::PostFault;
+pub use lent::Lent;
 pub use letter::{Full, Letter, LetterSets, Taken};
 pub use lines::{Lines, Place};
 pub use memory::{Memory, MemoryPost, put_in, take_from};

@@ -4,4 +4,6 @@
 #[cfg(test)]
 mod lender;
 #[cfg(test)]
+mod lent;
+#[cfg(test)]
 mod table;

@@ -126,7 +126,7 @@ fn follow_take<P: Post>(
     same(buffer, expected)
 }
 
-fn follow_all<P: Post>(post: &mut P) -> Result<(), Fail> {
+pub fn follow_all<P: Post>(post: &mut P) -> Result<(), Fail> {
     for row in TABLE {
         follow(post, row)?;
     }

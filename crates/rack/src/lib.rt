@@ -14,7 +14,7 @@ ghost use Rattle.rack.specs.Short.{short};
 mod records;
 
 use post::{Full, Letter, Lines, Pair, Post, PostFault, Record, Taken};
-use records::Records;
+pub use records::{LentRecords, Records};
 
 // A post over the first 1,024 records of the memory.
 // It holds the slice itself, and is no `MemoryPost`: of a slice that lies deeper in a struct, whoever lent it learns nothing

@@ -5,12 +5,16 @@ ghost use Rattle.rack.specs.Racked.{recorded};
 ghost use Rattle.rack.specs.Short.{short};
 ghost use Rattle.post.specs.declared.record.Record.{Record};
 
-use post::{Memory, Place, Record};
+use post::{Lent, Memory, Place, Record};
+
+// What a caller who wants a `MemoryPost` over such memory makes it of.
+pub type LentRecords<'a> = Lent<'a, Record, 1024>;
 
 // At least 1,024 records.
 #[derive(Drop)]
-pub(crate) struct Records<'a> {
-    items: &'a mut [Record],
+pub struct Records<'a> {
+    // public, so that a caller who has made a post of the memory gets the slice back
+    pub items: &'a mut [Record],
     ghost enough: { 1024 ≤ length items.now },
 }
 
@@ -27,6 +31,15 @@ impl<'a> Records<'a> {
         ensures name { self.new.items.ghost_name ≡ self.old.items.ghost_name }
     {
         self.items[usize::from(place)] = written;
+    }
+}
+
+// What is lent is known to suffice, so this cannot fail.
+impl<'a> From<LentRecords<'a>> for Records<'a> {
+    ghost from_gives = { λ lent made. made.items ≡ lent.items };
+
+    fn from(lent: LentRecords<'a>) -> Records<'a> {
+        Records { items: lent.items }
     }
 }
 
